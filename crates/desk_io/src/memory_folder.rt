@@ -1,0 +1,159 @@
+//! A folder in memory.
+
+ghost use Rattle.std.specs.Prelude.{◌≡◌, ℕ, ◌++◌, ◌<◌, ◌≤◌, Some, None, [], min, length, take, drop, true, false, is_err, is_some, IfOk, OnErr, IfSome, MatchOption, refl, unwrap_or};
+ghost use Rattle.std.proofs.Common.{◌∙◌, ap};
+ghost use Rattle.definitions.specs.Causes.{Rose};
+ghost use Rattle.desk_io.specs.Begun.{rest_of_file};
+ghost use Rattle.desk_io.specs.InMemory.{no_calls, next_fails, with_call, begin_of};
+ghost use Rattle.desk_io.specs.Told.{HasDistinctPaths, file_at};
+
+use super::outside::{Begin, Counted, Failed, Folder, Source};
+use super::pieces::copy_piece;
+use super::script::Script;
+use super::texts::{Blob, Name};
+use std::marker::Model;
+
+/// Files to read, at most `step` bytes in one call.
+#[derive(Drop)]
+pub struct MemoryFolder {
+    files: Vec<(Name, Blob)>,
+    begun: Option<usize>,
+    at: usize,
+    step: usize,
+    script: Script,
+}
+
+impl Model for MemoryFolder {
+    ghost use Rattle.std.specs.Prelude.{◌<◌};
+    ghost use Rattle.desk_io.specs.Begun.{rest_of_file, IsBegun};
+    ghost use Rattle.desk_io.specs.InMemory.{FolderState};
+    ghost use Rattle.desk_io.specs.Told.{HasDistinctPaths};
+
+    ghost Value = { FolderState };
+
+    ghost view = { λ s. record {
+      files = s.files.items;
+      left = rest_of_file s.files.items s.begun s.at;
+      step = s.step;
+      calls = s.script } };
+
+    ghost invariant = { λ s. record {
+      some : 0 < s.step;
+      within : IsBegun s.files.items s.begun s.at;
+      distinct : HasDistinctPaths s.files.items;
+    } };
+}
+
+impl MemoryFolder {
+    /// A folder of these files, pairs of a path and its bytes. No file is begun yet.
+    ///
+    /// The calls whose numbers, from 0, stand in `failing` are to fail.
+    pub fn new(files: Vec<(Name, Blob)>, step: usize, failing: Vec<u64>) -> MemoryFolder
+        requires step { 0 < step }
+        requires distinct { HasDistinctPaths files.items }
+        ensures value { result ≡ record {
+          files = files.items;
+          left = [];
+          step = step;
+          calls = no_calls failing.items } }
+    {
+        MemoryFolder {
+            files,
+            begun: None,
+            at: 0,
+            step,
+            script: Script::new(failing),
+        }
+    }
+}
+
+impl Counted for MemoryFolder {
+    ghost count = { λ s. s.calls.faults };
+
+    fn faults(&self) -> u64 {
+        self.script.faults()
+    }
+}
+
+impl Source for MemoryFolder {
+    ghost left = { λ s. Some s.left };
+
+    ghost keeps_source_rest = { λ a b. b.files ≡ a.files };
+
+    ghost source_rest_kept = { λ _. refl };
+
+    ghost source_rest_kept_on = { λ _ _ _ p q. q ∙ p };
+
+    fn read(&mut self, buf: &mut [u8]) -> Result<usize, Failed>
+        ensures failed { is_err result ≡ next_fails self.old.calls }
+        ensures number { IfOk result (λ n. n ≡ min (min (length buf.old) self.old.step) (length self.old.left)) }
+        ensures copied { IfOk result (λ n. buf.new ≡ take n self.old.left ++ drop n buf.old) }
+        ensures read { IfOk result (λ n. self.new ≡ record self.old {
+          left = drop n self.old.left;
+          calls = with_call self.old.calls false }) }
+        ensures unread { OnErr result (self.new ≡ record self.old { calls = with_call self.old.calls true }) }
+        ensures end { IfOk result (λ n. n ≡ 0 → 0 < length buf.old → self.new.left ≡ []) }
+        ensures count { self.old.calls.faults ≤ self.new.calls.faults }
+    {
+        let failed = self.script.next_fails();
+        self.script.count(failed);
+        if failed {
+            return Err(Failed);
+        }
+        let Some(place) = self.begun else {
+            return Ok(0);
+        };
+        let bytes = self.files[place].1.as_slice();
+        let n = copy_piece(&bytes[self.at..], self.step, buf);
+        self.at += n;
+        Ok(n)
+    }
+}
+
+impl Folder for MemoryFolder {
+    ghost files = { λ s. Some s.files };
+
+    ghost files_kept = { λ _ _ h. ap Some h };
+
+    fn begin(&mut self, path: &str) -> Begin
+        ensures value { result ≡ begin_of (next_fails self.old.calls) (file_at self.old.files path.now) }
+        ensures found { result ≡ Begin.Found → Some self.new.left ≡ file_at self.old.files path.now }
+        ensures missing { result ≡ Begin.Missing → self.new.left ≡ [] }
+        ensures failed { result ≡ Begin.Failed → self.new.left ≡ [] }
+        ensures state { self.new ≡ record self.old {
+          left = self.new.left;
+          calls = with_call self.old.calls (next_fails self.old.calls) } }
+        ensures count { self.old.calls.faults ≤ self.new.calls.faults }
+        ensures distinct { HasDistinctPaths self.old.files }
+    {
+        let failed = self.script.next_fails();
+        self.script.count(failed);
+        self.begun = None;
+        self.at = 0;
+        if failed {
+            return Begin::Failed;
+        }
+        match place_of(&self.files, path) {
+            Some(place) => {
+                self.begun = Some(place);
+                Begin::Found
+            }
+            None => Begin::Missing,
+        }
+    }
+}
+
+// The place of the file at the path.
+fn place_of(files: &[(Name, Blob)], path: &str) -> Option<usize>
+    ensures within { IfSome result (λ place. place < length files.now) }
+    ensures file { MatchOption result
+        (file_at files.now path.now ≡ None)
+        (λ place. file_at files.now path.now ≡ Some (rest_of_file files.now (Some place) 0)) }
+{
+    for (place, file) in files.iter().enumerate() {
+        if file.0.as_str() == path {
+            return Some(place);
+        }
+    }
+    None
+}

@@ -1,0 +1,86 @@
+//! A source in memory.
+
+ghost use Rattle.std.specs.Prelude.{◌≡◌, ◌++◌, ◌<◌, ◌≤◌, Some, [], min, length, take, drop, true, false, is_err, IfOk, OnOk, OnErr, IfSome, MatchResult, refl};
+ghost use Rattle.definitions.specs.Causes.{Rose};
+ghost use Rattle.desk_io.specs.InMemory.{no_calls, next_fails, with_call};
+ghost use Rattle.desk_io.specs.Told.{Takes};
+
+use super::outside::{Counted, Failed, Source};
+use super::pieces::copy_piece;
+use super::script::Script;
+use super::texts::Blob;
+use std::marker::Model;
+
+/// Bytes to read, at most `step` of them in one call.
+#[derive(Drop)]
+pub struct MemorySource {
+    bytes: Blob,
+    at: usize,
+    step: usize,
+    script: Script,
+}
+
+impl Model for MemorySource {
+    ghost use Rattle.std.specs.Prelude.{◌<◌, ◌≤◌, drop, length};
+    ghost use Rattle.desk_io.specs.InMemory.{SourceState};
+
+    ghost Value = { SourceState };
+
+    ghost view = { λ s. record { left = drop s.at s.bytes; step = s.step; calls = s.script } };
+
+    ghost invariant = { λ s. record { some : 0 < s.step; within : s.at ≤ length s.bytes } };
+}
+
+impl MemorySource {
+    /// A source of these bytes. The calls whose numbers, from 0, stand in `failing` are to fail.
+    pub fn new(bytes: Blob, step: usize, failing: Vec<u64>) -> MemorySource
+        requires step { 0 < step }
+        ensures value { result ≡ record { left = bytes; step = step; calls = no_calls failing.items } }
+    {
+        MemorySource {
+            bytes,
+            at: 0,
+            step,
+            script: Script::new(failing),
+        }
+    }
+}
+
+impl Counted for MemorySource {
+    ghost count = { λ s. s.calls.faults };
+
+    fn faults(&self) -> u64 {
+        self.script.faults()
+    }
+}
+
+impl Source for MemorySource {
+    ghost left = { λ s. Some s.left };
+
+    ghost keeps_source_rest = { λ _ _. Unit {0} };
+
+    ghost source_rest_kept = { λ _. tt };
+
+    ghost source_rest_kept_on = { λ _ _ _ _ _. tt };
+
+    fn read(&mut self, buf: &mut [u8]) -> Result<usize, Failed>
+        ensures failed { is_err result ≡ next_fails self.old.calls }
+        ensures number { IfOk result (λ n. n ≡ min (min (length buf.old) self.old.step) (length self.old.left)) }
+        ensures copied { IfOk result (λ n. buf.new ≡ take n self.old.left ++ drop n buf.old) }
+        ensures read { IfOk result (λ n. self.new ≡ record self.old {
+          left = drop n self.old.left;
+          calls = with_call self.old.calls false }) }
+        ensures end { IfOk result (λ n. n ≡ 0 → 0 < length buf.old → self.new.left ≡ []) }
+        ensures count { self.old.calls.faults ≤ self.new.calls.faults }
+        ensures unread { OnErr result (self.new ≡ record self.old { calls = with_call self.old.calls true }) }
+    {
+        let failed = self.script.next_fails();
+        self.script.count(failed);
+        if failed {
+            return Err(Failed);
+        }
+        let n = copy_piece(&self.bytes.as_slice()[self.at..], self.step, buf);
+        self.at += n;
+        Ok(n)
+    }
+}
