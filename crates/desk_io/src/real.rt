@@ -1,0 +1,146 @@
+//! Adapters over files and streams of the system. They tell nothing of their bytes.
+
+ghost use Rattle.std.specs.Prelude.{◌≡◌, ◌<◌, ◌≤◌, None, length, is_err, IfOk, if◌then◌else◌, refl};
+ghost use Rattle.desk_io.specs.InMemory.{raised_count};
+
+use super::outside::{Begin, Counted, Failed, Folder, Sink, Source};
+use std::fs;
+use std::io::{ErrorKind, Read, Write};
+use std::marker::Model;
+use std::rt::Files;
+
+/// The files that a runtime reaches. A contract sees the number of failed calls alone.
+#[derive(Drop)]
+pub struct RealFolder<R: Files + Drop> {
+    rt: R,
+    begun: Option<R::File>,
+    faults: u64,
+}
+
+impl<R: Files + Drop> Model for RealFolder<R> {
+    ghost use Rattle.std.specs.Prelude.{ℕ};
+
+    ghost Value = { ℕ };
+
+    ghost view = { λ s. s.faults };
+}
+
+impl<R: Files + Drop> RealFolder<R> {
+    /// A folder of the runtime's files. No file is begun yet.
+    pub fn new(rt: R) -> RealFolder<R>
+        ensures faults { result ≡ 0 }
+    {
+        RealFolder {
+            rt,
+            begun: None,
+            faults: 0,
+        }
+    }
+}
+
+impl<R: Files + Drop> Counted for RealFolder<R> {
+    ghost count = { λ s. s };
+
+    fn faults(&self) -> u64 {
+        self.faults
+    }
+}
+
+impl<R: Files + Drop> Source for RealFolder<R> {
+    ghost left = { λ _. None };
+
+    ghost keeps_source_rest = { λ _ _. Unit {0} };
+
+    ghost source_rest_kept = { λ _. tt };
+
+    ghost source_rest_kept_on = { λ _ _ _ _ _. tt };
+
+    fn read(&mut self, buf: &mut [u8]) -> Result<usize, Failed> {
+        let Some(file) = &mut self.begun else {
+            return Ok(0);
+        };
+        match file.read(buf) {
+            Ok(n) => Ok(n),
+            Err(_) => {
+                self.faults = self.faults.saturating_add(1);
+                Err(Failed)
+            }
+        }
+    }
+}
+
+impl<R: Files + Drop> Folder for RealFolder<R> {
+    ghost files = { λ _. None };
+
+    ghost files_kept = { λ _ _ _. refl };
+
+    fn begin(&mut self, path: &str) -> Begin {
+        self.begun = None;
+        match fs::open(&self.rt, path) {
+            Ok(file) => {
+                self.begun = Some(file);
+                Begin::Found
+            }
+            Err(e) => {
+                if e.kind() == ErrorKind::NotFound {
+                    return Begin::Missing;
+                }
+                self.faults = self.faults.saturating_add(1);
+                Begin::Failed
+            }
+        }
+    }
+}
+
+/// A stream that is written to. A contract sees the number of failed calls alone.
+#[derive(Drop)]
+pub struct RealStream<W: Write + Drop> {
+    stream: W,
+    faults: u64,
+}
+
+impl<W: Write + Drop> Model for RealStream<W> {
+    ghost use Rattle.std.specs.Prelude.{ℕ};
+
+    ghost Value = { ℕ };
+
+    ghost view = { λ s. s.faults };
+}
+
+impl<W: Write + Drop> RealStream<W> {
+    /// A sink over the stream.
+    pub fn new(stream: W) -> RealStream<W>
+        ensures faults { result ≡ 0 }
+    {
+        RealStream { stream, faults: 0 }
+    }
+}
+
+impl<W: Write + Drop> Counted for RealStream<W> {
+    ghost count = { λ s. s };
+
+    fn faults(&self) -> u64 {
+        self.faults
+    }
+}
+
+impl<W: Write + Drop> Sink for RealStream<W> {
+    ghost written = { λ _. None };
+
+    ghost keeps_sink_rest = { λ _ _. Unit {0} };
+
+    ghost sink_rest_kept = { λ _. tt };
+
+    ghost sink_rest_kept_on = { λ _ _ _ _ _. tt };
+
+    fn write(&mut self, piece: &[u8]) -> Result<usize, Failed> {
+        match self.stream.write(piece) {
+            // A stream that takes none of a piece would take none for ever.
+            Ok(n) if n > 0 || piece.is_empty() => Ok(n),
+            _ => {
+                self.faults = self.faults.saturating_add(1);
+                Err(Failed)
+            }
+        }
+    }
+}
