@@ -69,7 +69,7 @@ one_line-conserved zero lt ne = refl
 one_line-conserved (suc zero) lt ne = absurd (ne refl)
 one_line-conserved (suc (suc node)) lt ne = absurd (omega arith)
 
-one_line-waited : (arc : ℕ) → arc < 1 → IsTrue (is_boarding one_line arc) → IsWaitedFor one_line one_line_flows one_line_waits arc
+one_line-waited : (arc : ℕ) → arc < 1 → IsTrue (is_boarding one_line arc) → IsWaitedFor one_line one_line_flows arc (slice_index one_line_waits (tail_of one_line arc))
 one_line-waited zero lt here = lit≤ tt
 one_line-waited (suc arc) lt here = absurd (omega arith)
 
@@ -80,7 +80,7 @@ one_line-free : (arc : ℕ) → arc < 1 → tail_of one_line arc ≢ 1 → IsFal
 one_line-free zero lt ne here = absurd cc
 one_line-free (suc arc) lt ne here = absurd (omega arith)
 
-one_line-savings : (node : ℕ) → node < 2 → node ≢ 1 → weighted_savings one_line one_line_labels node ≤ 1800000000
+one_line-savings : (node : ℕ) → node < 2 → node ≢ 1 → weighted_savings one_line one_line_labels (boarding_arcs one_line node) (slice_index one_line_labels node) ≤ 1800000000
 one_line-savings zero lt ne = lit≤ tt
 one_line-savings (suc zero) lt ne = lit≤ tt
 one_line-savings (suc (suc node)) lt ne = absurd (omega arith)
@@ -137,7 +137,7 @@ four_stops-conserved (suc (suc (suc (suc zero)))) lt ne = refl
 four_stops-conserved (suc (suc (suc (suc (suc zero))))) lt ne = refl
 four_stops-conserved (suc (suc (suc (suc (suc (suc node)))))) lt ne = absurd (omega arith)
 
-four_stops-waited : (arc : ℕ) → arc < 10 → IsTrue (is_boarding four_stops arc) → IsWaitedFor four_stops four_stops_flows four_stops_waits arc
+four_stops-waited : (arc : ℕ) → arc < 10 → IsTrue (is_boarding four_stops arc) → IsWaitedFor four_stops four_stops_flows arc (slice_index four_stops_waits (tail_of four_stops arc))
 four_stops-waited zero lt here = lit≤ tt
 four_stops-waited (suc zero) lt here = lit≤ tt
 four_stops-waited (suc (suc zero)) lt here = lit≤ tt
@@ -166,7 +166,7 @@ four_stops-free (suc (suc (suc (suc (suc (suc (suc (suc zero)))))))) lt ne here 
 four_stops-free (suc (suc (suc (suc (suc (suc (suc (suc (suc zero))))))))) lt ne here = lit≤ tt
 four_stops-free (suc (suc (suc (suc (suc (suc (suc (suc (suc (suc arc)))))))))) lt ne here = absurd (omega arith)
 
-four_stops-savings : (node : ℕ) → node < 6 → node ≢ 3 → weighted_savings four_stops four_stops_labels node ≤ 2520
+four_stops-savings : (node : ℕ) → node < 6 → node ≢ 3 → weighted_savings four_stops four_stops_labels (boarding_arcs four_stops node) (slice_index four_stops_labels node) ≤ 2520
 four_stops-savings zero lt ne = lit≤ tt
 four_stops-savings (suc zero) lt ne = lit≤ tt
 four_stops-savings (suc (suc zero)) lt ne = lit≤ tt
