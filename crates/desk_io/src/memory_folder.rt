@@ -1,11 +1,11 @@
 //! A folder in memory.
 
-ghost use Rattle.std.specs.Prelude.{◌≡◌, ℕ, ◌++◌, ◌<◌, ◌≤◌, Some, None, [], min, length, take, drop, true, false, is_err, is_some, IfOk, OnErr, IfSome, MatchOption, refl, unwrap_or};
+ghost use Rattle.std.specs.Prelude.{◌≡◌, ℕ, ◌++◌, ◌<◌, ◌≤◌, IsTrue, Some, None, [], min, length, take, drop, true, false, is_err, is_some, IfOk, OnErr, IfSome, MatchOption, refl, unwrap_or};
 ghost use Rattle.std.proofs.Common.{◌∙◌, ap};
 ghost use Rattle.definitions.specs.Causes.{Rose};
 ghost use Rattle.desk_io.specs.Begun.{rest_of_file};
 ghost use Rattle.desk_io.specs.InMemory.{no_calls, next_fails, with_call, begin_of};
-ghost use Rattle.desk_io.specs.Told.{HasDistinctPaths, file_at};
+ghost use Rattle.desk_io.specs.Told.{has_distinct_paths, file_at};
 
 use super::outside::{Begin, Counted, Failed, Folder, Source};
 use super::pieces::copy_piece;
@@ -24,10 +24,10 @@ pub struct MemoryFolder {
 }
 
 impl Model for MemoryFolder {
-    ghost use Rattle.std.specs.Prelude.{◌<◌};
+    ghost use Rattle.std.specs.Prelude.{◌<◌, IsTrue};
     ghost use Rattle.desk_io.specs.Begun.{rest_of_file, IsBegun};
     ghost use Rattle.desk_io.specs.InMemory.{FolderState};
-    ghost use Rattle.desk_io.specs.Told.{HasDistinctPaths};
+    ghost use Rattle.desk_io.specs.Told.{has_distinct_paths};
 
     ghost Value = { FolderState };
 
@@ -40,17 +40,29 @@ impl Model for MemoryFolder {
     ghost invariant = { λ s. record {
       some : 0 < s.step;
       within : IsBegun s.files.items s.begun s.at;
-      distinct : HasDistinctPaths s.files.items;
+      distinct : IsTrue (has_distinct_paths s.files.items);
     } };
 }
 
 impl MemoryFolder {
+    /// Whether no two of the files have one path.
+    pub fn has_distinct_paths(files: &[(Name, Blob)]) -> bool
+        ensures value { result ≡ has_distinct_paths files.now }
+    {
+        for (place, file) in files.iter().enumerate() {
+            if place_of(&files[place + 1..], file.0.as_str()).is_some() {
+                return false;
+            }
+        }
+        true
+    }
+
     /// A folder of these files, pairs of a path and its bytes. No file is begun yet.
     ///
     /// The calls whose numbers, from 0, stand in `failing` are to fail.
     pub fn new(files: Vec<(Name, Blob)>, step: usize, failing: Vec<u64>) -> MemoryFolder
         requires step { 0 < step }
-        requires distinct { HasDistinctPaths files.items }
+        requires distinct { IsTrue (has_distinct_paths files.items) }
         ensures value { result ≡ record {
           files = files.items;
           left = [];
@@ -124,7 +136,7 @@ impl Folder for MemoryFolder {
           left = self.new.left;
           calls = with_call self.old.calls (next_fails self.old.calls) } }
         ensures count { self.old.calls.faults ≤ self.new.calls.faults }
-        ensures distinct { HasDistinctPaths self.old.files }
+        ensures distinct { IsTrue (has_distinct_paths self.old.files) }
     {
         let failed = self.script.next_fails();
         self.script.count(failed);
@@ -151,9 +163,66 @@ fn place_of(files: &[(Name, Blob)], path: &str) -> Option<usize>
         (λ place. file_at files.now path.now ≡ Some (rest_of_file files.now (Some place) 0)) }
 {
     for (place, file) in files.iter().enumerate() {
-        if file.0.as_str() == path {
+        if path == file.0.as_str() {
             return Some(place);
         }
     }
     None
+}
+
+#[cfg(test)]
+mod tests {
+    use super::*;
+    use std::alloc::{AllocError, Global};
+    use std::test::Fail;
+
+    fn file(alloc: Global, path: &str, text: &str) -> Result<(Name, Blob), AllocError>
+        ensures path { IfOk result (λ file. file.0 ≡ path.now) }
+    {
+        let name = Name::new(String::from_str(alloc, path)?);
+        Ok((name, Blob::new(text.as_bytes().to_vec(alloc)?)))
+    }
+
+    #[test]
+    fn begins_the_files_of_its_list(rt: HostRuntime) -> Result<(), Fail> {
+        let alloc = rt.alloc();
+        let mut files = Vec::new(alloc);
+        files.push(file(alloc, "f/a.txt", "one")?)?;
+        files.push(file(alloc, "f/b.txt", "three")?)?;
+        assert!(rt; MemoryFolder::has_distinct_paths(&files));
+        let mut folder = MemoryFolder::new(files, 4, [5, 7].to_vec(alloc)?);
+
+        // Each begin and what the first two reads after it give; calls 5 and 7 fail.
+        let cases = [
+            ("f/b.txt", Begin::Found, [Some("thre"), Some("e")]),
+            ("f/c.txt", Begin::Missing, [Some(""), None]),
+            ("f/a.txt", Begin::Found, [None, Some("one")]),
+            ("f/a.txt", Begin::Found, [Some("one"), Some("")]),
+        ];
+        for (path, begun, reads) in cases {
+            assert_eq!(rt; folder.begin(path), begun, "at {path}");
+            for want in reads {
+                let mut buf = [0u8; 9];
+                let got = folder.read(&mut buf).ok().map(|n| &buf[..n]);
+                assert_eq!(rt; got, want.map(|text| text.as_bytes()), "at {path}");
+            }
+        }
+        assert_eq!(rt; folder.faults(), 2);
+        Ok(())
+    }
+
+    #[test]
+    fn has_no_bytes_where_no_file_is_begun(rt: HostRuntime) -> Result<(), Fail> {
+        let alloc = rt.alloc();
+        let mut files = Vec::new(alloc);
+        files.push(file(alloc, "a", "one")?)?;
+        assert!(rt; MemoryFolder::has_distinct_paths(&files));
+        let mut folder = MemoryFolder::new(files, 4, [2].to_vec(alloc)?);
+        let mut buf = [0u8; 9];
+        assert_eq!(rt; folder.read(&mut buf), Ok(0), "before the first begin");
+        assert_eq!(rt; folder.begin("a"), Begin::Found);
+        assert_eq!(rt; folder.begin("a"), Begin::Failed);
+        assert_eq!(rt; folder.read(&mut buf), Ok(0), "after a failed begin");
+        Ok(())
+    }
 }

@@ -106,3 +106,40 @@ impl Sink for MemorySink {
         Ok(n)
     }
 }
+
+#[cfg(test)]
+mod tests {
+    use super::*;
+    use std::test::Fail;
+
+    #[test]
+    fn takes_bytes_in_steps_while_there_is_room(rt: HostRuntime) -> Result<(), Fail> {
+        // What four writes of "abc" answer; `None` is a failed one.
+        let cases = [
+            (9, 9, [9].as_slice(), [Some(3), Some(3), Some(3), None], "abcabcabc", 1),
+            (9, 2, [9].as_slice(), [Some(2), Some(2), Some(2), Some(2)], "abababab", 0),
+            (5, 9, [9].as_slice(), [Some(3), Some(2), None, None], "abcab", 2),
+            (9, 9, [0, 2].as_slice(), [None, Some(3), None, Some(3)], "abcabc", 2),
+            (0, 1, [0].as_slice(), [None, None, None, None], "", 4),
+        ];
+        for (room, step, failing, writes, written, faults) in cases {
+            assert!(rt; step > 0);
+            let failing = failing.to_vec(rt.alloc())?;
+            let mut sink = MemorySink::new(rt.alloc(), room, step, failing)?;
+            for want in writes {
+                assert_eq!(rt; sink.write(b"abc").ok(), want, "in room {room}, step {step}");
+            }
+            assert_eq!(rt; sink.bytes(), written.as_bytes(), "in room {room}, step {step}");
+            assert_eq!(rt; sink.faults(), faults, "in room {room}, step {step}");
+        }
+        Ok(())
+    }
+
+    #[test]
+    fn takes_an_empty_piece_without_room(rt: HostRuntime) -> Result<(), Fail> {
+        let mut sink = MemorySink::new(rt.alloc(), 0, 1, Vec::new(rt.alloc()))?;
+        assert_eq!(rt; sink.write(b""), Ok(0));
+        assert_eq!(rt; sink.faults(), 0);
+        Ok(())
+    }
+}

@@ -84,3 +84,33 @@ impl Source for MemorySource {
         Ok(n)
     }
 }
+
+#[cfg(test)]
+mod tests {
+    use super::*;
+    use std::test::Fail;
+
+    #[test]
+    fn gives_its_bytes_in_steps(rt: HostRuntime) -> Result<(), Fail> {
+        // What the reads of "abcdef" give, one after the other; `None` is a failed one.
+        let cases = [
+            (2, [9].as_slice(), 4, ["ab", "cd", "ef", ""].map(Some), 0),
+            (9, [9].as_slice(), 5, ["abcde", "f", "", ""].map(Some), 0),
+            (4, [9].as_slice(), 3, ["abc", "def", "", ""].map(Some), 0),
+            (4, [1, 2].as_slice(), 5, [Some("abcd"), None, None, Some("ef")], 2),
+            (4, [0].as_slice(), 0, [None, Some(""), Some(""), Some("")], 1),
+        ];
+        for (step, failing, room, reads, faults) in cases {
+            assert!(rt; step > 0 && room <= 5);
+            let bytes = Blob::new(b"abcdef".to_vec(rt.alloc())?);
+            let mut source = MemorySource::new(bytes, step, failing.to_vec(rt.alloc())?);
+            for want in reads {
+                let mut buf = [0u8; 5];
+                let got = source.read(&mut buf[..room]).ok().map(|n| &buf[..n]);
+                assert_eq!(rt; got, want.map(|text| text.as_bytes()), "at step {step}");
+            }
+            assert_eq!(rt; source.faults(), faults, "at step {step}");
+        }
+        Ok(())
+    }
+}

@@ -1,8 +1,8 @@
 //! The traits of the outside. Their ghost members are what an object tells to contracts.
 
-ghost use Rattle.std.specs.Prelude.{◌≡◌, ℕ, ◌<◌, ◌≤◌, List, [], Option, None, Some, length, take, IfOk, OnErr, IfSome, IsSome};
+ghost use Rattle.std.specs.Prelude.{◌≡◌, ℕ, ◌<◌, ◌≤◌, List, [], Option, None, Some, length, take, IfOk, OnErr, IfSome, IsSome, IsTrue};
 ghost use Rattle.definitions.specs.Causes.{Rose};
-ghost use Rattle.desk_io.specs.Told.{Appends, Takes, file_at, HasDistinctPaths};
+ghost use Rattle.desk_io.specs.Told.{Appends, Takes, file_at, has_distinct_paths};
 
 /// A call that failed. The object counted it.
 #[derive(Clone, Copy, Debug, Drop, PartialEq, Eq)]
@@ -98,7 +98,7 @@ pub trait Folder: Source {
         ensures none_failed { result ≡ Begin.Failed → IfSome (files self.old) (λ _. Self.left self.new ≡ Some []) }
         ensures count { Self.count self.old ≤ Self.count self.new }
         ensures files { files self.new ≡ files self.old }
-        ensures distinct { IfSome (files self.old) (λ told. HasDistinctPaths told) };
+        ensures distinct { IfSome (files self.old) (λ told. IsTrue (has_distinct_paths told)) };
 
     /// The files are part of what is told besides the bytes left.
     ghost files_kept: { (a b : Self) → Self.keeps_source_rest a b → files b ≡ files a };

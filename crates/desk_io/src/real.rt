@@ -1,6 +1,6 @@
 //! Adapters over files and streams of the system. They tell nothing of their bytes.
 
-ghost use Rattle.std.specs.Prelude.{◌≡◌, ◌<◌, ◌≤◌, None, length, is_err, IfOk, if◌then◌else◌, refl};
+ghost use Rattle.std.specs.Prelude.{◌≡◌, ◌≢◌, ◌<◌, ◌≤◌, None, length, IfOk, OnOk, OnErr, refl};
 ghost use Rattle.desk_io.specs.InMemory.{raised_count};
 
 use super::outside::{Begin, Counted, Failed, Folder, Sink, Source};
@@ -55,7 +55,12 @@ impl<R: Files + Drop> Source for RealFolder<R> {
 
     ghost source_rest_kept_on = { λ _ _ _ _ _. tt };
 
-    fn read(&mut self, buf: &mut [u8]) -> Result<usize, Failed> {
+    fn read(&mut self, buf: &mut [u8]) -> Result<usize, Failed>
+        ensures within { IfOk result (λ n. n ≤ length buf.old) }
+        ensures ok { OnOk result (self.new ≡ self.old) }
+        ensures err { OnErr result (self.new ≡ raised_count self.old) }
+        ensures count { self.old ≤ self.new }
+    {
         let Some(file) = &mut self.begun else {
             return Ok(0);
         };
@@ -74,7 +79,11 @@ impl<R: Files + Drop> Folder for RealFolder<R> {
 
     ghost files_kept = { λ _ _ _. refl };
 
-    fn begin(&mut self, path: &str) -> Begin {
+    fn begin(&mut self, path: &str) -> Begin
+        ensures begun { result ≢ Begin.Failed → self.new ≡ self.old }
+        ensures failed { result ≡ Begin.Failed → self.new ≡ raised_count self.old }
+        ensures count { self.old ≤ self.new }
+    {
         self.begun = None;
         match fs::open(&self.rt, path) {
             Ok(file) => {
@@ -133,7 +142,13 @@ impl<W: Write + Drop> Sink for RealStream<W> {
 
     ghost sink_rest_kept_on = { λ _ _ _ _ _. tt };
 
-    fn write(&mut self, piece: &[u8]) -> Result<usize, Failed> {
+    fn write(&mut self, piece: &[u8]) -> Result<usize, Failed>
+        ensures within { IfOk result (λ n. n ≤ length piece.now) }
+        ensures some { IfOk result (λ n. 0 < length piece.now → 0 < n) }
+        ensures ok { OnOk result (self.new ≡ self.old) }
+        ensures err { OnErr result (self.new ≡ raised_count self.old) }
+        ensures count { self.old ≤ self.new }
+    {
         match self.stream.write(piece) {
             // A stream that takes none of a piece would take none for ever.
             Ok(n) if n > 0 || piece.is_empty() => Ok(n),
