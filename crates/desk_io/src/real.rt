@@ -159,3 +159,43 @@ impl<W: Write + Drop> Sink for RealStream<W> {
         }
     }
 }
+
+#[cfg(test)]
+mod tests {
+    use super::*;
+    use crate::whole::{WriteFault, read_all, write_all};
+    use std::env;
+    use std::test::Fail;
+
+    #[test]
+    fn reads_a_file_that_a_stream_wrote(rt: HostRuntime) -> Result<(), Fail> {
+        let mut path = env::temp_dir(&rt)?;
+        path.push("desk_io_reads_a_file")?;
+        let mut stream = RealStream::new(fs::create(&rt, path.as_str())?);
+        assert_eq!(rt; write_all(&mut stream, b"nodes 2\n"), Ok(()));
+        assert_eq!(rt; stream.faults(), 0);
+
+        let mut folder = RealFolder::new(rt);
+        assert_eq!(rt; folder.begin(path.as_str()), Begin::Found);
+        let bytes = read_all(rt.alloc(), &mut folder, 8).ok();
+        assert_eq!(rt; bytes.as_ref().map(|v| v.as_slice()), Some(b"nodes 2\n".as_slice()));
+        fs::remove_file(&rt, path.as_str())?;
+        assert_eq!(rt; folder.begin(path.as_str()), Begin::Missing);
+        assert_eq!(rt; folder.faults(), 0);
+        // A path with a zero byte is refused by the system.
+        assert_eq!(rt; folder.begin("a\0b"), Begin::Failed);
+        assert_eq!(rt; folder.faults(), 1);
+        Ok(())
+    }
+
+    #[test]
+    fn counts_a_written_length_of_zero(rt: HostRuntime) -> Result<(), Fail> {
+        let mut room = [0u8; 3];
+        let mut stream = RealStream::new(room.as_mut_slice());
+        assert_eq!(rt; write_all(&mut stream, b"abcde"), Err(WriteFault { sent: 3 }));
+        assert_eq!(rt; stream.faults(), 1);
+        assert_eq!(rt; stream.write(b""), Ok(0));
+        assert_eq!(rt; stream.faults(), 1);
+        Ok(())
+    }
+}

@@ -101,3 +101,70 @@ pub fn write_all<S: Sink>(sink: &mut S, bytes: &[u8]) -> Result<(), WriteFault>
     }
     Ok(())
 }
+
+#[cfg(test)]
+mod tests {
+    use super::*;
+    use crate::memory_sink::MemorySink;
+    use crate::memory_source::MemorySource;
+    use crate::texts::Blob;
+    use std::test::Fail;
+
+    #[test]
+    fn reads_up_to_the_limit(rt: HostRuntime) -> Result<(), Fail> {
+        // Reads of "abcdefg" in steps of 3, and what is left then. Where no call fails, the bytes
+        // come in calls 0, 1 and 2, and call 3 gives none.
+        let cases = [
+            (usize::MAX, 9, Ok("abcdefg"), ""),
+            (7, 9, Ok("abcdefg"), ""),
+            (6, 9, Err(ReadAll::TooLarge), ""),
+            (3, 9, Err(ReadAll::TooLarge), "efg"),
+            (0, 9, Err(ReadAll::TooLarge), "bcdefg"),
+            (7, 1, Err(ReadAll::ReadFault), "defg"),
+            (7, 3, Err(ReadAll::ReadFault), ""),
+        ];
+        for (limit, failing, want, left) in cases {
+            let bytes = Blob::new(b"abcdefg".to_vec(rt.alloc())?);
+            let mut source = MemorySource::new(bytes, 3, [failing].to_vec(rt.alloc())?);
+            let got = read_all(rt.alloc(), &mut source, limit);
+            match &got {
+                Ok(bytes) => assert_eq!(rt; Ok(bytes.as_slice()), want.map(|w| w.as_bytes())),
+                Err(fault) => assert_eq!(rt; Err(*fault), want.map(|w| w.as_bytes())),
+            }
+            let after = read_all(rt.alloc(), &mut source, 7).ok();
+            assert_eq!(rt; after.as_ref().map(|v| v.as_slice()), Some(left.as_bytes()), "{limit}");
+        }
+        Ok(())
+    }
+
+    #[test]
+    fn reads_more_than_one_buffer(rt: HostRuntime) -> Result<(), Fail> {
+        for (limit, fits) in [(40_000, true), (39_999, false)] {
+            let bytes = Blob::new(vec![in rt.alloc(); 7u8; 40_000]?);
+            let mut source = MemorySource::new(bytes, 40_000, Vec::new(rt.alloc()));
+            match read_all(rt.alloc(), &mut source, limit) {
+                Ok(bytes) => assert!(rt; fits && bytes.len() == 40_000),
+                Err(fault) => assert!(rt; !fits && fault == ReadAll::TooLarge),
+            }
+        }
+        Ok(())
+    }
+
+    #[test]
+    fn writes_all_or_says_how_much(rt: HostRuntime) -> Result<(), Fail> {
+        // Writes of "abcdefg" in steps of 2 into so much room.
+        let cases = [
+            (7, 9, Ok(()), "abcdefg"),
+            (7, 2, Err(WriteFault { sent: 4 }), "abcd"),
+            (5, 9, Err(WriteFault { sent: 5 }), "abcde"),
+            (7, 0, Err(WriteFault { sent: 0 }), ""),
+        ];
+        for (room, failing, want, written) in cases {
+            let failing = [failing].to_vec(rt.alloc())?;
+            let mut sink = MemorySink::new(rt.alloc(), room, 2, failing)?;
+            assert_eq!(rt; write_all(&mut sink, b"abcdefg"), want, "in room {room}");
+            assert_eq!(rt; sink.bytes(), written.as_bytes(), "in room {room}");
+        }
+        Ok(())
+    }
+}
