@@ -28,7 +28,7 @@ abbrev pub with_call : Calls → Bool → Calls
 with_call calls failed = record {
   made = raised_count calls.made;
   faults = if failed then raised_count calls.faults else calls.faults;
-  failing = calls.failing
+  failing = calls.failing;
 }
 
 -- a source: the bytes that are left, and the greatest number that one call gives

@@ -35,7 +35,8 @@ impl Model for MemoryFolder {
       files = s.files.items;
       left = rest_of_file s.files.items s.begun s.at;
       step = s.step;
-      calls = s.script } };
+      calls = s.script;
+    } };
 
     ghost invariant = { λ s. record {
       some : 0 < s.step;
@@ -67,7 +68,8 @@ impl MemoryFolder {
           files = files.items;
           left = [];
           step = step;
-          calls = no_calls failing.items } }
+          calls = no_calls failing.items;
+        } }
     {
         MemoryFolder {
             files,
@@ -102,7 +104,8 @@ impl Source for MemoryFolder {
         ensures copied { IfOk result (λ n. buf.new ≡ take n self.old.left ++ drop n buf.old) }
         ensures read { IfOk result (λ n. self.new ≡ record self.old {
           left = drop n self.old.left;
-          calls = with_call self.old.calls false }) }
+          calls = with_call self.old.calls false;
+        }) }
         ensures unread { OnErr result (self.new ≡ record self.old { calls = with_call self.old.calls true }) }
         ensures end { IfOk result (λ n. n ≡ 0 → 0 < length buf.old → self.new.left ≡ []) }
         ensures count { self.old.calls.faults ≤ self.new.calls.faults }
@@ -134,7 +137,8 @@ impl Folder for MemoryFolder {
         ensures failed { result ≡ Begin.Failed → self.new.left ≡ [] }
         ensures state { self.new ≡ record self.old {
           left = self.new.left;
-          calls = with_call self.old.calls (next_fails self.old.calls) } }
+          calls = with_call self.old.calls (next_fails self.old.calls);
+        } }
         ensures count { self.old.calls.faults ≤ self.new.calls.faults }
         ensures distinct { IsTrue (has_distinct_paths self.old.files) }
     {

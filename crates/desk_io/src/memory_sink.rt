@@ -48,7 +48,8 @@ impl MemorySink {
           written = [];
           room = room;
           step = step;
-          calls = no_calls failing.items }) }
+          calls = no_calls failing.items;
+        }) }
     {
         let bytes = Vec::with_capacity(alloc, room)?;
         Ok(MemorySink {
@@ -89,7 +90,8 @@ impl Sink for MemorySink {
         ensures number { IfOk result (λ n. n ≡ min (min (length piece.now) self.old.step) (room_left self.old)) }
         ensures written { IfOk result (λ n. self.new ≡ record self.old {
           written = self.old.written ++ take n piece.now;
-          calls = with_call self.old.calls false }) }
+          calls = with_call self.old.calls false;
+        }) }
         ensures unwritten { OnErr result (self.new ≡ record self.old { calls = with_call self.old.calls true }) }
         ensures some { IfOk result (λ n. 0 < length piece.now → 0 < n) }
         ensures count { self.old.calls.faults ≤ self.new.calls.faults }
@@ -116,10 +118,38 @@ mod tests {
     fn takes_bytes_in_steps_while_there_is_room(rt: HostRuntime) -> Result<(), Fail> {
         // What four writes of "abc" answer; `None` is a failed one.
         let cases = [
-            (9, 9, [9].as_slice(), [Some(3), Some(3), Some(3), None], "abcabcabc", 1),
-            (9, 2, [9].as_slice(), [Some(2), Some(2), Some(2), Some(2)], "abababab", 0),
-            (5, 9, [9].as_slice(), [Some(3), Some(2), None, None], "abcab", 2),
-            (9, 9, [0, 2].as_slice(), [None, Some(3), None, Some(3)], "abcabc", 2),
+            (
+                9,
+                9,
+                [9].as_slice(),
+                [Some(3), Some(3), Some(3), None],
+                "abcabcabc",
+                1,
+            ),
+            (
+                9,
+                2,
+                [9].as_slice(),
+                [Some(2), Some(2), Some(2), Some(2)],
+                "abababab",
+                0,
+            ),
+            (
+                5,
+                9,
+                [9].as_slice(),
+                [Some(3), Some(2), None, None],
+                "abcab",
+                2,
+            ),
+            (
+                9,
+                9,
+                [0, 2].as_slice(),
+                [None, Some(3), None, Some(3)],
+                "abcabc",
+                2,
+            ),
             (0, 1, [0].as_slice(), [None, None, None, None], "", 4),
         ];
         for (room, step, failing, writes, written, faults) in cases {
@@ -127,9 +157,17 @@ mod tests {
             let failing = failing.to_vec(rt.alloc())?;
             let mut sink = MemorySink::new(rt.alloc(), room, step, failing)?;
             for want in writes {
-                assert_eq!(rt; sink.write(b"abc").ok(), want, "in room {room}, step {step}");
+                assert_eq!(rt;
+                    sink.write(b"abc").ok(),
+                    want,
+                    "in room {room}, step {step}"
+                );
             }
-            assert_eq!(rt; sink.bytes(), written.as_bytes(), "in room {room}, step {step}");
+            assert_eq!(rt;
+                sink.bytes(),
+                written.as_bytes(),
+                "in room {room}, step {step}"
+            );
             assert_eq!(rt; sink.faults(), faults, "in room {room}, step {step}");
         }
         Ok(())

@@ -69,7 +69,8 @@ impl Source for MemorySource {
         ensures copied { IfOk result (λ n. buf.new ≡ take n self.old.left ++ drop n buf.old) }
         ensures read { IfOk result (λ n. self.new ≡ record self.old {
           left = drop n self.old.left;
-          calls = with_call self.old.calls false }) }
+          calls = with_call self.old.calls false;
+        }) }
         ensures end { IfOk result (λ n. n ≡ 0 → 0 < length buf.old → self.new.left ≡ []) }
         ensures count { self.old.calls.faults ≤ self.new.calls.faults }
         ensures unread { OnErr result (self.new ≡ record self.old { calls = with_call self.old.calls true }) }
@@ -97,8 +98,20 @@ mod tests {
             (2, [9].as_slice(), 4, ["ab", "cd", "ef", ""].map(Some), 0),
             (9, [9].as_slice(), 5, ["abcde", "f", "", ""].map(Some), 0),
             (4, [9].as_slice(), 3, ["abc", "def", "", ""].map(Some), 0),
-            (4, [1, 2].as_slice(), 5, [Some("abcd"), None, None, Some("ef")], 2),
-            (4, [0].as_slice(), 0, [None, Some(""), Some(""), Some("")], 1),
+            (
+                4,
+                [1, 2].as_slice(),
+                5,
+                [Some("abcd"), None, None, Some("ef")],
+                2,
+            ),
+            (
+                4,
+                [0].as_slice(),
+                0,
+                [None, Some(""), Some(""), Some("")],
+                1,
+            ),
         ];
         for (step, failing, room, reads, faults) in cases {
             assert!(rt; step > 0 && room <= 5);

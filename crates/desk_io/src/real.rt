@@ -178,7 +178,10 @@ mod tests {
         let mut folder = RealFolder::new(rt);
         assert_eq!(rt; folder.begin(path.as_str()), Begin::Found);
         let bytes = read_all(rt.alloc(), &mut folder, 8).ok();
-        assert_eq!(rt; bytes.as_ref().map(|v| v.as_slice()), Some(b"nodes 2\n".as_slice()));
+        assert_eq!(rt;
+            bytes.as_ref().map(|v| v.as_slice()),
+            Some(b"nodes 2\n".as_slice())
+        );
         fs::remove_file(&rt, path.as_str())?;
         assert_eq!(rt; folder.begin(path.as_str()), Begin::Missing);
         assert_eq!(rt; folder.faults(), 0);
@@ -192,7 +195,10 @@ mod tests {
     fn counts_a_written_length_of_zero(rt: HostRuntime) -> Result<(), Fail> {
         let mut room = [0u8; 3];
         let mut stream = RealStream::new(room.as_mut_slice());
-        assert_eq!(rt; write_all(&mut stream, b"abcde"), Err(WriteFault { sent: 3 }));
+        assert_eq!(rt;
+            write_all(&mut stream, b"abcde"),
+            Err(WriteFault { sent: 3 })
+        );
         assert_eq!(rt; stream.faults(), 1);
         assert_eq!(rt; stream.write(b""), Ok(0));
         assert_eq!(rt; stream.faults(), 1);

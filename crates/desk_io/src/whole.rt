@@ -37,11 +37,7 @@ impl From<AllocError> for ReadAll {
 /// - `ReadFault`: a read failed.
 /// - `TooLarge`: more than `limit` bytes came. The first `limit + 1` of them were taken.
 /// - `NoMemory` may come at any time.
-pub fn read_all<S: Source>(
-    alloc: Global,
-    source: &mut S,
-    limit: usize,
-) -> Result<Vec<u8>, ReadAll>
+pub fn read_all<S: Source>(alloc: Global, source: &mut S, limit: usize) -> Result<Vec<u8>, ReadAll>
     // Of a source that tells its bytes.
     ensures value { IfOk result (λ v. IfSome (S.left source.old) (λ told. v.items ≡ told)) }
     ensures end { OnOk result (IfSome (S.left source.old) (λ _. S.left source.new ≡ Some [])) }
@@ -132,7 +128,11 @@ mod tests {
                 Err(fault) => assert_eq!(rt; Err(*fault), want.map(|w| w.as_bytes())),
             }
             let after = read_all(rt.alloc(), &mut source, 7).ok();
-            assert_eq!(rt; after.as_ref().map(|v| v.as_slice()), Some(left.as_bytes()), "{limit}");
+            assert_eq!(rt;
+                after.as_ref().map(|v| v.as_slice()),
+                Some(left.as_bytes()),
+                "{limit}"
+            );
         }
         Ok(())
     }
