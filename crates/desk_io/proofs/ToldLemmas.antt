@@ -1,27 +1,16 @@
 -- Bytes that are taken or appended in several pieces.
-use Rattle.std.proofs.Common.{◌≡◌, ℕ, ◌≤◌, ◌-◌, ◌+◌, List, [], ◌++◌, Option, None, Some, refl, sym, ap, append_assoc, take, drop, length, arith, ◌∙◌, append-nil}
+use Rattle.std.proofs.Common.{◌≡◌, ℕ, ◌≤◌, ◌-◌, ◌+◌, List, ◌++◌, Option, None, Some, refl, sym, ap, append_assoc, take, drop, length, length-append}
 use Rattle.std.proofs.lemmas.List.{take_rest}
 use Rattle.std.proofs.Math.Seq.{take-add, drop-append_seam}
-use Rattle.std.proofs.Common.{length-append}
 use Rattle.std.specs.Option.{option_map}
 use Rattle.desk_io.specs.Told.{Appends, Takes, TakesAtMost}
 
--- nothing is appended where nothing changes
-pub appends_nothing : (told : Option (List ℕ)) → Appends told told []
-appends_nothing None = refl
-appends_nothing (Some bytes) = ap Some (sym (append-nil bytes))
-
--- what is appended in two pieces
+-- what is appended in two pieces is appended as one
 pub appends_then : (old mid new : Option (List ℕ)) (front back : List ℕ) → Appends old mid front → Appends mid new back → Appends old new (front ++ back)
 appends_then None mid new front back first second = rw (second, first) refl
 appends_then (Some bytes) mid new front back first second = rw (second, first) (ap Some (append_assoc bytes front back))
 
--- nothing is taken where nothing changes
-pub takes_nothing : (told : Option (List ℕ)) → Takes told told []
-takes_nothing None = refl
-takes_nothing (Some bytes) = refl
-
--- what is taken in two pieces
+-- what is taken in two pieces is taken as one
 pub takes_then : (old mid new : Option (List ℕ)) (front back : List ℕ) → Takes old mid front → Takes mid new back → Takes old new (front ++ back)
 takes_then old mid None front back first second = rw (first, second) refl
 takes_then old mid (Some bytes) front back first second = rw (first, second) (ap Some (sym (append_assoc front back bytes)))
@@ -31,7 +20,7 @@ pub left_of_takes : (old new : Option (List ℕ)) (bytes : List ℕ) (n : ℕ) �
 left_of_takes old None bytes n takes long = rw takes refl
 left_of_takes old (Some rest) bytes n takes long = rw (takes, ← long) (ap Some (sym (drop-append_seam bytes rest)))
 
--- two pieces that are taken, and no more than so many bytes
+-- two pieces that are taken are no more than so many bytes
 pub takes_at_most : (old mid new : Option (List ℕ)) (front back : List ℕ) (most : ℕ) → Takes old mid front → Takes mid new back
     → length front + length back ≤ most → TakesAtMost old new most
 takes_at_most old mid new front back most first second within =

@@ -1,5 +1,5 @@
 -- What the objects in memory show to contracts.
-use Rattle.std.specs.Prelude.{ℕ, ◌+◌, ◌-◌, ◌==◌, ◌||◌, ◌&&◌, min, not, nat_lt, List, length, Bool, true, false, if◌then◌else◌, Option, None, Some}
+use Rattle.std.specs.Prelude.{ℕ, ◌+◌, ◌-◌, ◌==◌, ◌||◌, ◌&&◌, min, not, List, length, Bool, true, false, if◌then◌else◌, Option, None, Some}
 use Rattle.std.specs.List.{list_any}
 use Rattle.definitions.specs.Causes.{last_count}
 use Rattle.desk_io.specs.declared.outside.Begin.{Begin}
@@ -31,20 +31,20 @@ with_call calls failed = record {
   failing = calls.failing;
 }
 
--- a source: the bytes that are left, and the greatest number that one call gives
+-- a source: the bytes left, and how many of them one call gives at most
 pub record SourceState : Type 0 where
   pub left : List ℕ
   pub step : ℕ
   pub calls : Calls
 
--- a sink: the bytes written, how many it takes in all, and how many in one call
+-- a sink: the bytes written, how many it takes in all, and how many in one call at most
 pub record SinkState : Type 0 where
   pub written : List ℕ
   pub room : ℕ
   pub step : ℕ
   pub calls : Calls
 
--- a folder: its files as pairs of a path and bytes, and the source of the one that was begun
+-- a folder: its files as pairs of a path and bytes, the bytes left of the one that was begun, and how many of them one call gives at most
 pub record FolderState : Type 0 where
   pub files : List (List ℕ × List ℕ)
   pub left : List ℕ

@@ -5,11 +5,11 @@ use Rattle.std.specs.Io.KnownBytes.{append_known, prepend_known}
 use Rattle.std.specs.Map.{lookup}
 use Rattle.std.specs.Str.{bytes_eq}
 
--- what is told has grown by the bytes at its end
+-- what is told has these bytes more than before, at its end
 abbrev pub Appends : Option (List ℕ) → Option (List ℕ) → List ℕ → Type 0
 Appends old new bytes = new ≡ append_known old bytes
 
--- what was told begins with the bytes, and is told without them now
+-- what was told begins with these bytes, and is told without them now
 abbrev pub Takes : Option (List ℕ) → Option (List ℕ) → List ℕ → Type 0
 Takes old new bytes = old ≡ prepend_known bytes new
 

@@ -1,8 +1,7 @@
 //! A folder in memory.
 
-ghost use Rattle.std.specs.Prelude.{◌≡◌, ℕ, ◌++◌, ◌<◌, ◌≤◌, IsTrue, Some, None, [], min, length, take, drop, true, false, is_err, is_some, IfOk, OnErr, IfSome, MatchOption, refl, unwrap_or};
+ghost use Rattle.std.specs.Prelude.{◌≡◌, ◌++◌, ◌<◌, ◌≤◌, IsTrue, Some, None, [], min, length, take, drop, true, false, is_err, IfOk, OnErr, IfSome, MatchOption, refl};
 ghost use Rattle.std.proofs.Common.{◌∙◌, ap};
-ghost use Rattle.definitions.specs.Causes.{Rose};
 ghost use Rattle.desk_io.specs.Begun.{rest_of_file};
 ghost use Rattle.desk_io.specs.InMemory.{no_calls, next_fails, with_call, begin_of};
 ghost use Rattle.desk_io.specs.Told.{has_distinct_paths, file_at};
@@ -13,7 +12,7 @@ use super::script::Script;
 use super::texts::{Blob, Name};
 use std::marker::Model;
 
-/// Files to read, at most `step` bytes in one call.
+/// Files to read, at most `step` bytes in one call. Each call of `begin` and `read` is numbered.
 #[derive(Drop)]
 pub struct MemoryFolder {
     files: Vec<(Name, Blob)>,
@@ -94,9 +93,9 @@ impl Source for MemoryFolder {
 
     ghost keeps_source_rest = { λ a b. b.files ≡ a.files };
 
-    ghost source_rest_kept = { λ _. refl };
+    ghost source_rest_reflexive = { λ _. refl };
 
-    ghost source_rest_kept_on = { λ _ _ _ p q. q ∙ p };
+    ghost source_rest_transitive = { λ _ _ _ p q. q ∙ p };
 
     fn read(&mut self, buf: &mut [u8]) -> Result<usize, Failed>
         ensures failed { is_err result ≡ next_fails self.old.calls }
@@ -132,9 +131,9 @@ impl Folder for MemoryFolder {
 
     fn begin(&mut self, path: &str) -> Begin
         ensures value { result ≡ begin_of (next_fails self.old.calls) (file_at self.old.files path.now) }
-        ensures found { result ≡ Begin.Found → Some self.new.left ≡ file_at self.old.files path.now }
-        ensures missing { result ≡ Begin.Missing → self.new.left ≡ [] }
-        ensures failed { result ≡ Begin.Failed → self.new.left ≡ [] }
+        ensures begun { result ≡ Begin.Found → Some self.new.left ≡ file_at self.old.files path.now }
+        ensures none_missing { result ≡ Begin.Missing → self.new.left ≡ [] }
+        ensures none_failed { result ≡ Begin.Failed → self.new.left ≡ [] }
         ensures state { self.new ≡ record self.old {
           left = self.new.left;
           calls = with_call self.old.calls (next_fails self.old.calls);
@@ -196,19 +195,19 @@ mod tests {
         assert!(rt; MemoryFolder::has_distinct_paths(&files));
         let mut folder = MemoryFolder::new(files, 4, [5, 7].to_vec(alloc)?);
 
-        // Each begin and what the first two reads after it give; calls 5 and 7 fail.
+        // What each begin and the two reads after it give; "!" stands for the failed calls 5 and 7.
         let cases = [
-            ("f/b.txt", Begin::Found, [Some("thre"), Some("e")]),
-            ("f/c.txt", Begin::Missing, [Some(""), None]),
-            ("f/a.txt", Begin::Found, [None, Some("one")]),
-            ("f/a.txt", Begin::Found, [Some("one"), Some("")]),
+            ("f/b.txt", Begin::Found, ["thre", "e"]),
+            ("f/c.txt", Begin::Missing, ["", "!"]),
+            ("f/a.txt", Begin::Found, ["!", "one"]),
+            ("f/a.txt", Begin::Found, ["one", ""]),
         ];
         for (path, begun, reads) in cases {
             assert_eq!(rt; folder.begin(path), begun, "at {path}");
             for want in reads {
-                let mut buf = [0u8; 9];
-                let got = folder.read(&mut buf).ok().map(|n| &buf[..n]);
-                assert_eq!(rt; got, want.map(|text| text.as_bytes()), "at {path}");
+                let mut buf = [b'!'; 9];
+                let n = folder.read(&mut buf).unwrap_or(1);
+                assert_eq!(rt; &buf[..n], want.as_bytes(), "at {path}");
             }
         }
         assert_eq!(rt; folder.faults(), 2);

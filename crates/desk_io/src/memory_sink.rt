@@ -1,7 +1,6 @@
 //! A sink in memory.
 
-ghost use Rattle.std.specs.Prelude.{◌≡◌, ◌++◌, ◌<◌, ◌≤◌, Some, [], min, length, take, true, false, is_err, IfOk, OnErr, refl};
-ghost use Rattle.definitions.specs.Causes.{Rose};
+ghost use Rattle.std.specs.Prelude.{◌≡◌, ◌++◌, ◌<◌, ◌≤◌, Some, [], min, length, take, true, false, is_err, IfOk, OnErr};
 ghost use Rattle.desk_io.specs.InMemory.{no_calls, with_call, room_left, write_fails};
 
 use super::outside::{Counted, Failed, Sink};
@@ -81,9 +80,9 @@ impl Sink for MemorySink {
 
     ghost keeps_sink_rest = { λ _ _. Unit {0} };
 
-    ghost sink_rest_kept = { λ _. tt };
+    ghost sink_rest_reflexive = { λ _. tt };
 
-    ghost sink_rest_kept_on = { λ _ _ _ _ _. tt };
+    ghost sink_rest_transitive = { λ _ _ _ _ _. tt };
 
     fn write(&mut self, piece: &[u8]) -> Result<usize, Failed>
         ensures failed { is_err result ≡ write_fails self.old piece.now }
@@ -116,59 +115,23 @@ mod tests {
 
     #[test]
     fn takes_bytes_in_steps_while_there_is_room(rt: HostRuntime) -> Result<(), Fail> {
-        // What four writes of "abc" answer; `None` is a failed one.
+        // What four writes of "abc" answer; 0 stands for a failed one. Call 9 is never made.
         let cases = [
-            (
-                9,
-                9,
-                [9].as_slice(),
-                [Some(3), Some(3), Some(3), None],
-                "abcabcabc",
-                1,
-            ),
-            (
-                9,
-                2,
-                [9].as_slice(),
-                [Some(2), Some(2), Some(2), Some(2)],
-                "abababab",
-                0,
-            ),
-            (
-                5,
-                9,
-                [9].as_slice(),
-                [Some(3), Some(2), None, None],
-                "abcab",
-                2,
-            ),
-            (
-                9,
-                9,
-                [0, 2].as_slice(),
-                [None, Some(3), None, Some(3)],
-                "abcabc",
-                2,
-            ),
-            (0, 1, [0].as_slice(), [None, None, None, None], "", 4),
+            (9, 9, [9, 9], [3, 3, 3, 0], "abcabcabc", 1),
+            (9, 2, [9, 9], [2, 2, 2, 2], "abababab", 0),
+            (5, 9, [9, 9], [3, 2, 0, 0], "abcab", 2),
+            (9, 9, [0, 2], [0, 3, 0, 3], "abcabc", 2),
+            (0, 1, [0, 9], [0, 0, 0, 0], "", 4),
         ];
         for (room, step, failing, writes, written, faults) in cases {
             assert!(rt; step > 0);
             let failing = failing.to_vec(rt.alloc())?;
             let mut sink = MemorySink::new(rt.alloc(), room, step, failing)?;
             for want in writes {
-                assert_eq!(rt;
-                    sink.write(b"abc").ok(),
-                    want,
-                    "in room {room}, step {step}"
-                );
+                assert_eq!(rt; sink.write(b"abc").unwrap_or(0), want, "in room {room}");
             }
-            assert_eq!(rt;
-                sink.bytes(),
-                written.as_bytes(),
-                "in room {room}, step {step}"
-            );
-            assert_eq!(rt; sink.faults(), faults, "in room {room}, step {step}");
+            assert_eq!(rt; sink.bytes(), written.as_bytes(), "in room {room}");
+            assert_eq!(rt; sink.faults(), faults, "in room {room}");
         }
         Ok(())
     }

@@ -51,9 +51,9 @@ impl<R: Files + Drop> Source for RealFolder<R> {
 
     ghost keeps_source_rest = { λ _ _. Unit {0} };
 
-    ghost source_rest_kept = { λ _. tt };
+    ghost source_rest_reflexive = { λ _. tt };
 
-    ghost source_rest_kept_on = { λ _ _ _ _ _. tt };
+    ghost source_rest_transitive = { λ _ _ _ _ _. tt };
 
     fn read(&mut self, buf: &mut [u8]) -> Result<usize, Failed>
         ensures within { IfOk result (λ n. n ≤ length buf.old) }
@@ -138,9 +138,9 @@ impl<W: Write + Drop> Sink for RealStream<W> {
 
     ghost keeps_sink_rest = { λ _ _. Unit {0} };
 
-    ghost sink_rest_kept = { λ _. tt };
+    ghost sink_rest_reflexive = { λ _. tt };
 
-    ghost sink_rest_kept_on = { λ _ _ _ _ _. tt };
+    ghost sink_rest_transitive = { λ _ _ _ _ _. tt };
 
     fn write(&mut self, piece: &[u8]) -> Result<usize, Failed>
         ensures within { IfOk result (λ n. n ≤ length piece.now) }

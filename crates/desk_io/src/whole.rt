@@ -1,24 +1,25 @@
 //! Whole reads and whole writes.
 
-ghost use Rattle.std.specs.Prelude.{◌≡◌, ℕ, ◌+◌, ◌<◌, ◌≤◌, [], Some, length, take, drop, IfOk, OnOk, OnErr, IfErr, IfSome, IsErrOf};
+ghost use Rattle.std.specs.Prelude.{◌≡◌, ◌+◌, ◌<◌, ◌≤◌, [], Some, length, take, drop, IfOk, OnOk, OnErr, IfErr, IfSome, IsErrOf};
 ghost use Rattle.std.specs.Option.{option_map};
 ghost use Rattle.definitions.specs.Causes.{Rose};
-ghost use Rattle.desk_io.specs.Told.{Appends, Takes, TakesAtMost};
+ghost use Rattle.desk_io.specs.Told.{Appends, TakesAtMost};
 ghost use Rattle.desk_io.specs.declared.whole.ReadAll.TheVariants.{NoMemory};
 
 use super::outside::{Counted, Failed, Sink, Source};
 use std::alloc::{AllocError, Global};
 
-/// The bytes of one read.
+// The greatest number of bytes of one read.
 const BUFFER: usize = 16_384;
 
 /// Why not all was read.
 #[derive(Clone, Copy, Debug, Drop, PartialEq, Eq)]
 pub enum ReadAll {
-    /// A read failed.
+    /// A read failed, and the source counted it.
     ReadFault,
     /// More bytes came than the limit.
     TooLarge,
+    /// There was no memory for the bytes.
     NoMemory,
 }
 
@@ -30,13 +31,14 @@ impl From<AllocError> for ReadAll {
     }
 }
 
-/// The bytes that are left of a source, where they are no more than `limit`. None is left after.
+/// The bytes that are left of the source, where they are no more than `limit`. It leaves none.
 ///
 /// # Refusals
 ///
+/// Each comes as soon as it applies, and leaves the source without the bytes read so far.
 /// - `ReadFault`: a read failed.
-/// - `TooLarge`: more than `limit` bytes came. The first `limit + 1` of them were taken.
-/// - `NoMemory` may come at any time.
+/// - `TooLarge`: more than `limit` bytes came. Exactly `limit + 1` of them were taken.
+/// - `NoMemory`: the bytes found no memory.
 pub fn read_all<S: Source>(alloc: Global, source: &mut S, limit: usize) -> Result<Vec<u8>, ReadAll>
     // Of a source that tells its bytes.
     ensures value { IfOk result (λ v. IfSome (S.left source.old) (λ told. v.items ≡ told)) }
@@ -71,13 +73,13 @@ pub fn read_all<S: Source>(alloc: Global, source: &mut S, limit: usize) -> Resul
     }
 }
 
-/// A write that failed after the first `sent` bytes.
+/// A write failed after the first `sent` bytes, and the sink counted it.
 #[derive(Clone, Copy, Debug, Drop, PartialEq, Eq)]
 pub struct WriteFault {
     pub sent: usize,
 }
 
-/// Appends all of the bytes.
+/// Appends all of the bytes to those written, and takes no memory.
 ///
 /// Where a write fails, the first `sent` of them were appended and no others.
 pub fn write_all<S: Sink>(sink: &mut S, bytes: &[u8]) -> Result<(), WriteFault>

@@ -1,4 +1,4 @@
-use Rattle.std.proofs.Common.{◌≡◌, ◌≤◌, ◌+◌, length, take, arith, length-append}
+use Rattle.std.proofs.Common.{arith}
 use Rattle.std.proofs.lemmas.Grind.{common_steps}
 use Rattle.desk_io.proofs.ToldLemmas.{takes_then, left_of_takes, takes_at_most}
 use Rattle.desk_io.proofs.whole.read_all.Goals as goal
