@@ -5,7 +5,7 @@ use Rattle.definitions.specs.Causes.{last_count}
 use Rattle.desk_io.specs.declared.outside.Begin.{Begin}
 use Rattle.desk_io.specs.declared.outside.Begin.TheVariants as begin
 
--- the calls made so far, how many of them failed, and the numbers of those that are to fail, counted from 0
+-- the calls made so far, how many of them failed, and the numbers of those to fail, counted from 0
 pub record Calls : Type 0 where
   pub made : ℕ
   pub faults : ℕ
@@ -44,7 +44,7 @@ pub record SinkState : Type 0 where
   pub step : ℕ
   pub calls : Calls
 
--- a folder: its files as pairs of a path and bytes, the bytes left of the one that was begun, and how many of them one call gives at most
+-- a folder: its files as pairs of a path and bytes, and the source of the file that was begun, without bytes where none was
 pub record FolderState : Type 0 where
   pub files : List (List ℕ × List ℕ)
   pub left : List ℕ

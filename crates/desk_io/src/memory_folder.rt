@@ -1,6 +1,6 @@
 //! A folder in memory.
 
-ghost use Rattle.std.specs.Prelude.{◌≡◌, ◌++◌, ◌<◌, ◌≤◌, IsTrue, Some, None, [], min, length, take, drop, true, false, is_err, IfOk, OnErr, IfSome, MatchOption, refl};
+ghost use Rattle.std.specs.Prelude.{◌≡◌, ◌≢◌, ◌++◌, ◌<◌, ◌≤◌, IsTrue, Some, None, [], min, length, take, drop, true, false, is_err, IfOk, OnErr, IfSome, MatchOption, refl};
 ghost use Rattle.std.proofs.Common.{◌∙◌, ap};
 ghost use Rattle.desk_io.specs.Begun.{rest_of_file};
 ghost use Rattle.desk_io.specs.InMemory.{no_calls, next_fails, with_call, begin_of};
@@ -99,13 +99,15 @@ impl Source for MemoryFolder {
 
     fn read(&mut self, buf: &mut [u8]) -> Result<usize, Failed>
         ensures failed { is_err result ≡ next_fails self.old.calls }
-        ensures number { IfOk result (λ n. n ≡ min (min (length buf.old) self.old.step) (length self.old.left)) }
+        ensures number { IfOk result
+            (λ n. n ≡ min (min (length buf.old) self.old.step) (length self.old.left)) }
         ensures copied { IfOk result (λ n. buf.new ≡ take n self.old.left ++ drop n buf.old) }
         ensures read { IfOk result (λ n. self.new ≡ record self.old {
           left = drop n self.old.left;
           calls = with_call self.old.calls false;
         }) }
-        ensures unread { OnErr result (self.new ≡ record self.old { calls = with_call self.old.calls true }) }
+        ensures unread { OnErr result
+            (self.new ≡ record self.old { calls = with_call self.old.calls true }) }
         ensures end { IfOk result (λ n. n ≡ 0 → 0 < length buf.old → self.new.left ≡ []) }
         ensures count { self.old.calls.faults ≤ self.new.calls.faults }
     {
@@ -130,10 +132,11 @@ impl Folder for MemoryFolder {
     ghost files_kept = { λ _ _ h. ap Some h };
 
     fn begin(&mut self, path: &str) -> Begin
-        ensures value { result ≡ begin_of (next_fails self.old.calls) (file_at self.old.files path.now) }
-        ensures begun { result ≡ Begin.Found → Some self.new.left ≡ file_at self.old.files path.now }
-        ensures none_missing { result ≡ Begin.Missing → self.new.left ≡ [] }
-        ensures none_failed { result ≡ Begin.Failed → self.new.left ≡ [] }
+        ensures value { result ≡
+            begin_of (next_fails self.old.calls) (file_at self.old.files path.now) }
+        ensures begun { result ≡ Begin.Found →
+            Some self.new.left ≡ file_at self.old.files path.now }
+        ensures none_left { result ≢ Begin.Found → self.new.left ≡ [] }
         ensures state { self.new ≡ record self.old {
           left = self.new.left;
           calls = with_call self.old.calls (next_fails self.old.calls);

@@ -23,7 +23,12 @@ impl Model for MemorySink {
 
     ghost Value = { SinkState };
 
-    ghost view = { λ s. record { written = s.bytes.items; room = s.room; step = s.step; calls = s.script } };
+    ghost view = { λ s. record {
+      written = s.bytes.items;
+      room = s.room;
+      step = s.step;
+      calls = s.script;
+    } };
 
     ghost invariant = { λ s. record {
       some : 0 < s.step;
@@ -86,12 +91,14 @@ impl Sink for MemorySink {
 
     fn write(&mut self, piece: &[u8]) -> Result<usize, Failed>
         ensures failed { is_err result ≡ write_fails self.old piece.now }
-        ensures number { IfOk result (λ n. n ≡ min (min (length piece.now) self.old.step) (room_left self.old)) }
+        ensures number { IfOk result
+            (λ n. n ≡ min (min (length piece.now) self.old.step) (room_left self.old)) }
         ensures written { IfOk result (λ n. self.new ≡ record self.old {
           written = self.old.written ++ take n piece.now;
           calls = with_call self.old.calls false;
         }) }
-        ensures unwritten { OnErr result (self.new ≡ record self.old { calls = with_call self.old.calls true }) }
+        ensures unwritten { OnErr result
+            (self.new ≡ record self.old { calls = with_call self.old.calls true }) }
         ensures some { IfOk result (λ n. 0 < length piece.now → 0 < n) }
         ensures count { self.old.calls.faults ≤ self.new.calls.faults }
     {

@@ -33,7 +33,11 @@ impl MemorySource {
     /// A source of these bytes. The calls whose numbers, from 0, stand in `failing` are to fail.
     pub fn new(bytes: Blob, step: usize, failing: Vec<u64>) -> MemorySource
         requires step { 0 < step }
-        ensures value { result ≡ record { left = bytes; step = step; calls = no_calls failing.items } }
+        ensures value { result ≡ record {
+          left = bytes;
+          step = step;
+          calls = no_calls failing.items;
+        } }
     {
         MemorySource {
             bytes,
@@ -63,15 +67,17 @@ impl Source for MemorySource {
 
     fn read(&mut self, buf: &mut [u8]) -> Result<usize, Failed>
         ensures failed { is_err result ≡ next_fails self.old.calls }
-        ensures number { IfOk result (λ n. n ≡ min (min (length buf.old) self.old.step) (length self.old.left)) }
+        ensures number { IfOk result
+            (λ n. n ≡ min (min (length buf.old) self.old.step) (length self.old.left)) }
         ensures copied { IfOk result (λ n. buf.new ≡ take n self.old.left ++ drop n buf.old) }
         ensures read { IfOk result (λ n. self.new ≡ record self.old {
           left = drop n self.old.left;
           calls = with_call self.old.calls false;
         }) }
+        ensures unread { OnErr result
+            (self.new ≡ record self.old { calls = with_call self.old.calls true }) }
         ensures end { IfOk result (λ n. n ≡ 0 → 0 < length buf.old → self.new.left ≡ []) }
         ensures count { self.old.calls.faults ≤ self.new.calls.faults }
-        ensures unread { OnErr result (self.new ≡ record self.old { calls = with_call self.old.calls true }) }
     {
         let failed = self.script.next_fails();
         self.script.count(failed);

@@ -1,7 +1,7 @@
 //! The traits of the outside. Their ghost members are what an object tells to contracts; one that
 //! tells nothing has `None`, and then only the count of its failed calls is known.
 
-ghost use Rattle.std.specs.Prelude.{◌≡◌, ℕ, ◌<◌, ◌≤◌, List, [], Option, None, Some, length, take, IfOk, OnErr, IfSome, IsSome, IsTrue};
+ghost use Rattle.std.specs.Prelude.{◌≡◌, ◌≢◌, ℕ, ◌<◌, ◌≤◌, List, [], Option, None, Some, length, take, IfOk, OnErr, IfSome, IsSome, IsTrue};
 ghost use Rattle.definitions.specs.Causes.{Rose};
 ghost use Rattle.desk_io.specs.Told.{Appends, Takes, file_at, has_distinct_paths};
 
@@ -34,7 +34,8 @@ pub trait Source: Counted {
     fn read(&mut self, buf: &mut [u8]) -> Result<usize, Failed>
         ensures within { IfOk result (λ n. n ≤ length buf.old) }
         ensures ok { IfOk result (λ n. Takes (left self.old) (left self.new) (take n buf.new)) }
-        ensures end { IfOk result (λ n. n ≡ 0 → 0 < length buf.old → IfSome (left self.new) (λ bytes. bytes ≡ [])) }
+        ensures end { IfOk result
+            (λ n. n ≡ 0 → 0 < length buf.old → IfSome (left self.new) (λ bytes. bytes ≡ [])) }
         ensures err { OnErr result (left self.new ≡ left self.old) }
         ensures read_cause { OnErr result (Rose (Self.count self.old) (Self.count self.new)) }
         ensures count { Self.count self.old ≤ Self.count self.new }
@@ -42,7 +43,8 @@ pub trait Source: Counted {
 
     ghost source_rest_reflexive: { (a : Self) → keeps_source_rest a a };
 
-    ghost source_rest_transitive: { (a b c : Self) → keeps_source_rest a b → keeps_source_rest b c → keeps_source_rest a c };
+    ghost source_rest_transitive: { (a b c : Self)
+        → keeps_source_rest a b → keeps_source_rest b c → keeps_source_rest a c };
 }
 
 /// Where bytes go to.
@@ -59,7 +61,8 @@ pub trait Sink: Counted {
     fn write(&mut self, piece: &[u8]) -> Result<usize, Failed>
         ensures within { IfOk result (λ n. n ≤ length piece.now) }
         ensures some { IfOk result (λ n. 0 < length piece.now → 0 < n) }
-        ensures ok { IfOk result (λ n. Appends (written self.old) (written self.new) (take n piece.now)) }
+        ensures ok { IfOk result
+            (λ n. Appends (written self.old) (written self.new) (take n piece.now)) }
         ensures err { OnErr result (written self.new ≡ written self.old) }
         ensures write_cause { OnErr result (Rose (Self.count self.old) (Self.count self.new)) }
         ensures count { Self.count self.old ≤ Self.count self.new }
@@ -67,7 +70,8 @@ pub trait Sink: Counted {
 
     ghost sink_rest_reflexive: { (a : Self) → keeps_sink_rest a a };
 
-    ghost sink_rest_transitive: { (a b c : Self) → keeps_sink_rest a b → keeps_sink_rest b c → keeps_sink_rest a c };
+    ghost sink_rest_transitive: { (a b c : Self)
+        → keeps_sink_rest a b → keeps_sink_rest b c → keeps_sink_rest a c };
 }
 
 /// What became of a file that was to be begun.
@@ -90,13 +94,19 @@ pub trait Folder: Source {
     ///
     /// After `Missing` and `Failed` no bytes are left.
     fn begin(&mut self, path: &str) -> Begin
-        ensures found { result ≡ Begin.Found → IfSome (files self.old) (λ told. IsSome (file_at told path.now)) }
-        ensures missing { result ≡ Begin.Missing → IfSome (files self.old) (λ told. file_at told path.now ≡ None) }
-        ensures read_cause { result ≡ Begin.Failed → Rose (Self.count self.old) (Self.count self.new) }
+        // When each answer comes.
+        ensures found { result ≡ Begin.Found →
+            IfSome (files self.old) (λ told. IsSome (file_at told path.now)) }
+        ensures missing { result ≡ Begin.Missing →
+            IfSome (files self.old) (λ told. file_at told path.now ≡ None) }
+        ensures read_cause { result ≡ Begin.Failed →
+            Rose (Self.count self.old) (Self.count self.new) }
 
-        ensures begun { result ≡ Begin.Found → IfSome (files self.old) (λ told. Self.left self.new ≡ file_at told path.now) }
-        ensures none_missing { result ≡ Begin.Missing → IfSome (files self.old) (λ _. Self.left self.new ≡ Some []) }
-        ensures none_failed { result ≡ Begin.Failed → IfSome (files self.old) (λ _. Self.left self.new ≡ Some []) }
+        // What it leaves.
+        ensures begun { result ≡ Begin.Found →
+            IfSome (files self.old) (λ told. Self.left self.new ≡ file_at told path.now) }
+        ensures none_left { result ≢ Begin.Found →
+            IfSome (files self.old) (λ _. Self.left self.new ≡ Some []) }
         ensures count { Self.count self.old ≤ Self.count self.new }
         ensures files { files self.new ≡ files self.old }
         ensures distinct { IfSome (files self.old) (λ told. IsTrue (has_distinct_paths told)) };

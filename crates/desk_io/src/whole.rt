@@ -43,13 +43,16 @@ pub fn read_all<S: Source>(alloc: Global, source: &mut S, limit: usize) -> Resul
     // Of a source that tells its bytes.
     ensures value { IfOk result (λ v. IfSome (S.left source.old) (λ told. v.items ≡ told)) }
     ensures end { OnOk result (IfSome (S.left source.old) (λ _. S.left source.new ≡ Some [])) }
-    ensures too_large { IsErrOf result ReadAll.TooLarge → IfSome (S.left source.old) (λ told. limit < length told) }
-    ensures one_past { IsErrOf result ReadAll.TooLarge → S.left source.new ≡ option_map (λ told. drop (limit + 1) told) (S.left source.old) }
+    ensures too_large { IsErrOf result ReadAll.TooLarge →
+        IfSome (S.left source.old) (λ told. limit < length told) }
+    ensures one_past { IsErrOf result ReadAll.TooLarge →
+        S.left source.new ≡ option_map (drop (limit + 1)) (S.left source.old) }
     ensures taken { TakesAtMost (S.left source.old) (S.left source.new) (limit + 1) }
 
     // Of each source.
     ensures within { IfOk result (λ v. length v.items ≤ limit) }
-    ensures read_cause { IsErrOf result ReadAll.ReadFault → Rose (S.count source.old) (S.count source.new) }
+    ensures read_cause { IsErrOf result ReadAll.ReadFault →
+        Rose (S.count source.old) (S.count source.new) }
     ensures count { S.count source.old ≤ S.count source.new }
     ensures rest { S.keeps_source_rest source.old source.new }
 {
@@ -84,7 +87,8 @@ pub struct WriteFault {
 /// Where a write fails, the first `sent` of them were appended and no others.
 pub fn write_all<S: Sink>(sink: &mut S, bytes: &[u8]) -> Result<(), WriteFault>
     ensures ok { OnOk result (Appends (S.written sink.old) (S.written sink.new) bytes.now) }
-    ensures err { IfErr result (λ fault. Appends (S.written sink.old) (S.written sink.new) (take fault.sent bytes.now)) }
+    ensures err { IfErr result
+        (λ fault. Appends (S.written sink.old) (S.written sink.new) (take fault.sent bytes.now)) }
     ensures sent { IfErr result (λ fault. fault.sent < length bytes.now) }
     ensures write_cause { OnErr result (Rose (S.count sink.old) (S.count sink.new)) }
     ensures count { S.count sink.old ≤ S.count sink.new }
