@@ -164,13 +164,14 @@ impl<W: Write + Drop> Sink for RealStream<W> {
 mod tests {
     use super::*;
     use crate::whole::{WriteFault, read_all, write_all};
-    use std::env;
     use std::test::Fail;
+    use std::{env, process};
 
     #[test]
     fn reads_a_file_that_a_stream_wrote(rt: HostRuntime) -> Result<(), Fail> {
         let mut path = env::temp_dir(&rt)?;
-        path.push("desk_io_reads_a_file")?;
+        let process = process::id(rt.process());
+        path.push(format!(in rt.alloc(); "desk_io_{process}")?)?;
         let mut stream = RealStream::new(fs::create(&rt, path.as_str())?);
         assert_eq!(rt; write_all(&mut stream, b"nodes 2\n"), Ok(()));
         assert_eq!(rt; stream.faults(), 0);
