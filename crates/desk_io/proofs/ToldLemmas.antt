@@ -1,37 +1,29 @@
 -- Bytes that are taken or appended in several pieces.
-use Rattle.std.proofs.Common.{◌≡◌, ℕ, ◌≤◌, ◌-◌, ◌+◌, List, [], ◌++◌, Option, None, Some, refl, sym, ap, append_assoc, take, drop, length, arith, ◌∙◌, append-nil}
+use Rattle.std.proofs.Common.{◌≡◌, ℕ, ◌≤◌, ◌-◌, ◌+◌, List, ◌++◌, Option, None, Some, refl, sym, ap, append_assoc, take, drop, length, length-append}
 use Rattle.std.proofs.lemmas.List.{take_rest}
 use Rattle.std.proofs.Math.Seq.{take-add, drop-append_seam}
-use Rattle.std.proofs.Common.{length-append}
 use Rattle.std.specs.Option.{option_map}
 use Rattle.desk_io.specs.Told.{Appends, Takes, TakesAtMost}
 
--- nothing is appended where nothing changes
-pub appends_nothing : (told : Option (List ℕ)) → Appends told told []
-appends_nothing None = refl
-appends_nothing (Some bytes) = ap Some (sym (append-nil bytes))
-
--- what is appended in two pieces
-pub appends_then : (old mid new : Option (List ℕ)) (front back : List ℕ) → Appends old mid front → Appends mid new back → Appends old new (front ++ back)
+-- what is appended in two pieces is appended as one
+pub appends_then : (old mid new : Option (List ℕ)) (front back : List ℕ)
+    → Appends old mid front → Appends mid new back → Appends old new (front ++ back)
 appends_then None mid new front back first second = rw (second, first) refl
 appends_then (Some bytes) mid new front back first second = rw (second, first) (ap Some (append_assoc bytes front back))
 
--- nothing is taken where nothing changes
-pub takes_nothing : (told : Option (List ℕ)) → Takes told told []
-takes_nothing None = refl
-takes_nothing (Some bytes) = refl
-
--- what is taken in two pieces
-pub takes_then : (old mid new : Option (List ℕ)) (front back : List ℕ) → Takes old mid front → Takes mid new back → Takes old new (front ++ back)
+-- what is taken in two pieces is taken as one
+pub takes_then : (old mid new : Option (List ℕ)) (front back : List ℕ)
+    → Takes old mid front → Takes mid new back → Takes old new (front ++ back)
 takes_then old mid None front back first second = rw (first, second) refl
 takes_then old mid (Some bytes) front back first second = rw (first, second) (ap Some (sym (append_assoc front back bytes)))
 
 -- what is left once so many bytes are taken
-pub left_of_takes : (old new : Option (List ℕ)) (bytes : List ℕ) (n : ℕ) → Takes old new bytes → length bytes ≡ n → new ≡ option_map (λ told. drop n told) old
+pub left_of_takes : (old new : Option (List ℕ)) (bytes : List ℕ) (n : ℕ)
+    → Takes old new bytes → length bytes ≡ n → new ≡ option_map (drop n) old
 left_of_takes old None bytes n takes long = rw takes refl
 left_of_takes old (Some rest) bytes n takes long = rw (takes, ← long) (ap Some (sym (drop-append_seam bytes rest)))
 
--- two pieces that are taken, and no more than so many bytes
+-- two pieces that are taken are no more than so many bytes
 pub takes_at_most : (old mid new : Option (List ℕ)) (front back : List ℕ) (most : ℕ) → Takes old mid front → Takes mid new back
     → length front + length back ≤ most → TakesAtMost old new most
 takes_at_most old mid new front back most first second within =
@@ -42,4 +34,5 @@ pub appends_more : (old mid new : Option (List ℕ)) (bytes : List ℕ) (sent n 
     → Appends old mid (take sent bytes) → Appends mid new (take n (take (length bytes - sent) (drop sent bytes)))
     → Appends old new (take (sent + n) bytes)
 appends_more old mid new bytes sent n within first second =
-    rw (take-add sent n bytes) (appends_then old mid new (take sent bytes) (take n (drop sent bytes)) first (rw (take_rest bytes sent) at second))
+    let next : Appends mid new (take n (drop sent bytes)) = rw (take_rest bytes sent) at second in
+    rw (take-add sent n bytes) (appends_then old mid new (take sent bytes) (take n (drop sent bytes)) first next)

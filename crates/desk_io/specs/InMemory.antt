@@ -1,11 +1,11 @@
 -- What the objects in memory show to contracts.
-use Rattle.std.specs.Prelude.{ℕ, ◌+◌, ◌-◌, ◌==◌, ◌||◌, ◌&&◌, min, not, nat_lt, List, length, Bool, true, false, if◌then◌else◌, Option, None, Some}
+use Rattle.std.specs.Prelude.{ℕ, ◌+◌, ◌-◌, ◌==◌, ◌||◌, ◌&&◌, min, not, List, length, Bool, true, false, if◌then◌else◌, Option, None, Some}
 use Rattle.std.specs.List.{list_any}
 use Rattle.definitions.specs.Causes.{last_count}
 use Rattle.desk_io.specs.declared.outside.Begin.{Begin}
 use Rattle.desk_io.specs.declared.outside.Begin.TheVariants as begin
 
--- the calls made so far, how many of them failed, and the numbers of those that are to fail, counted from 0
+-- the calls made so far, how many of them failed, and the numbers of those to fail, counted from 0
 pub record Calls : Type 0 where
   pub made : ℕ
   pub faults : ℕ
@@ -28,23 +28,23 @@ abbrev pub with_call : Calls → Bool → Calls
 with_call calls failed = record {
   made = raised_count calls.made;
   faults = if failed then raised_count calls.faults else calls.faults;
-  failing = calls.failing
+  failing = calls.failing;
 }
 
--- a source: the bytes that are left, and the greatest number that one call gives
+-- a source: the bytes left, and how many of them one call gives at most
 pub record SourceState : Type 0 where
   pub left : List ℕ
   pub step : ℕ
   pub calls : Calls
 
--- a sink: the bytes written, how many it takes in all, and how many in one call
+-- a sink: the bytes written, how many it takes in all, and how many in one call at most
 pub record SinkState : Type 0 where
   pub written : List ℕ
   pub room : ℕ
   pub step : ℕ
   pub calls : Calls
 
--- a folder: its files as pairs of a path and bytes, and the source of the one that was begun
+-- a folder: its files as pairs of a path and bytes, and the source of the file that was begun, without bytes where none was
 pub record FolderState : Type 0 where
   pub files : List (List ℕ × List ℕ)
   pub left : List ℕ

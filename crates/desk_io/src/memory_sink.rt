@@ -1,7 +1,6 @@
 //! A sink in memory.
 
-ghost use Rattle.std.specs.Prelude.{◌≡◌, ◌++◌, ◌<◌, ◌≤◌, Some, [], min, length, take, true, false, is_err, IfOk, OnErr, refl};
-ghost use Rattle.definitions.specs.Causes.{Rose};
+ghost use Rattle.std.specs.Prelude.{◌≡◌, ◌++◌, ◌<◌, ◌≤◌, Some, [], min, length, take, true, false, is_err, IfOk, OnErr};
 ghost use Rattle.desk_io.specs.InMemory.{no_calls, with_call, room_left, write_fails};
 
 use super::outside::{Counted, Failed, Sink};
@@ -24,7 +23,12 @@ impl Model for MemorySink {
 
     ghost Value = { SinkState };
 
-    ghost view = { λ s. record { written = s.bytes.items; room = s.room; step = s.step; calls = s.script } };
+    ghost view = { λ s. record {
+      written = s.bytes.items;
+      room = s.room;
+      step = s.step;
+      calls = s.script;
+    } };
 
     ghost invariant = { λ s. record {
       some : 0 < s.step;
@@ -48,7 +52,8 @@ impl MemorySink {
           written = [];
           room = room;
           step = step;
-          calls = no_calls failing.items }) }
+          calls = no_calls failing.items;
+        }) }
     {
         let bytes = Vec::with_capacity(alloc, room)?;
         Ok(MemorySink {
@@ -80,17 +85,20 @@ impl Sink for MemorySink {
 
     ghost keeps_sink_rest = { λ _ _. Unit {0} };
 
-    ghost sink_rest_kept = { λ _. tt };
+    ghost sink_rest_reflexive = { λ _. tt };
 
-    ghost sink_rest_kept_on = { λ _ _ _ _ _. tt };
+    ghost sink_rest_transitive = { λ _ _ _ _ _. tt };
 
     fn write(&mut self, piece: &[u8]) -> Result<usize, Failed>
         ensures failed { is_err result ≡ write_fails self.old piece.now }
-        ensures number { IfOk result (λ n. n ≡ min (min (length piece.now) self.old.step) (room_left self.old)) }
+        ensures number { IfOk result
+            (λ n. n ≡ min (min (length piece.now) self.old.step) (room_left self.old)) }
         ensures written { IfOk result (λ n. self.new ≡ record self.old {
           written = self.old.written ++ take n piece.now;
-          calls = with_call self.old.calls false }) }
-        ensures unwritten { OnErr result (self.new ≡ record self.old { calls = with_call self.old.calls true }) }
+          calls = with_call self.old.calls false;
+        }) }
+        ensures unwritten { OnErr result
+            (self.new ≡ record self.old { calls = with_call self.old.calls true }) }
         ensures some { IfOk result (λ n. 0 < length piece.now → 0 < n) }
         ensures count { self.old.calls.faults ≤ self.new.calls.faults }
     {
@@ -104,5 +112,42 @@ impl Sink for MemorySink {
         // The room was reserved.
         self.bytes.extend_from_slice(&piece[..n]).unwrap();
         Ok(n)
+    }
+}
+
+#[cfg(test)]
+mod tests {
+    use super::*;
+    use std::test::Fail;
+
+    #[test]
+    fn takes_bytes_in_steps_while_there_is_room(rt: HostRuntime) -> Result<(), Fail> {
+        // What four writes of "abc" answer; 0 stands for a failed one. Call 9 is never made.
+        let cases = [
+            (9, 9, [9, 9], [3, 3, 3, 0], "abcabcabc", 1),
+            (9, 2, [9, 9], [2, 2, 2, 2], "abababab", 0),
+            (5, 9, [9, 9], [3, 2, 0, 0], "abcab", 2),
+            (9, 9, [0, 2], [0, 3, 0, 3], "abcabc", 2),
+            (0, 1, [0, 9], [0, 0, 0, 0], "", 4),
+        ];
+        for (room, step, failing, writes, written, faults) in cases {
+            assert!(rt; step > 0);
+            let failing = failing.to_vec(rt.alloc())?;
+            let mut sink = MemorySink::new(rt.alloc(), room, step, failing)?;
+            for want in writes {
+                assert_eq!(rt; sink.write(b"abc").unwrap_or(0), want, "in room {room}");
+            }
+            assert_eq!(rt; sink.bytes(), written.as_bytes(), "in room {room}");
+            assert_eq!(rt; sink.faults(), faults, "in room {room}");
+        }
+        Ok(())
+    }
+
+    #[test]
+    fn takes_an_empty_piece_without_room(rt: HostRuntime) -> Result<(), Fail> {
+        let mut sink = MemorySink::new(rt.alloc(), 0, 1, Vec::new(rt.alloc()))?;
+        assert_eq!(rt; sink.write(b""), Ok(0));
+        assert_eq!(rt; sink.faults(), 0);
+        Ok(())
     }
 }

@@ -1,9 +1,7 @@
 //! A source in memory.
 
-ghost use Rattle.std.specs.Prelude.{◌≡◌, ◌++◌, ◌<◌, ◌≤◌, Some, [], min, length, take, drop, true, false, is_err, IfOk, OnOk, OnErr, IfSome, MatchResult, refl};
-ghost use Rattle.definitions.specs.Causes.{Rose};
+ghost use Rattle.std.specs.Prelude.{◌≡◌, ◌++◌, ◌<◌, ◌≤◌, Some, [], min, length, take, drop, true, false, is_err, IfOk, OnErr};
 ghost use Rattle.desk_io.specs.InMemory.{no_calls, next_fails, with_call};
-ghost use Rattle.desk_io.specs.Told.{Takes};
 
 use super::outside::{Counted, Failed, Source};
 use super::pieces::copy_piece;
@@ -35,7 +33,11 @@ impl MemorySource {
     /// A source of these bytes. The calls whose numbers, from 0, stand in `failing` are to fail.
     pub fn new(bytes: Blob, step: usize, failing: Vec<u64>) -> MemorySource
         requires step { 0 < step }
-        ensures value { result ≡ record { left = bytes; step = step; calls = no_calls failing.items } }
+        ensures value { result ≡ record {
+          left = bytes;
+          step = step;
+          calls = no_calls failing.items;
+        } }
     {
         MemorySource {
             bytes,
@@ -59,20 +61,23 @@ impl Source for MemorySource {
 
     ghost keeps_source_rest = { λ _ _. Unit {0} };
 
-    ghost source_rest_kept = { λ _. tt };
+    ghost source_rest_reflexive = { λ _. tt };
 
-    ghost source_rest_kept_on = { λ _ _ _ _ _. tt };
+    ghost source_rest_transitive = { λ _ _ _ _ _. tt };
 
     fn read(&mut self, buf: &mut [u8]) -> Result<usize, Failed>
         ensures failed { is_err result ≡ next_fails self.old.calls }
-        ensures number { IfOk result (λ n. n ≡ min (min (length buf.old) self.old.step) (length self.old.left)) }
+        ensures number { IfOk result
+            (λ n. n ≡ min (min (length buf.old) self.old.step) (length self.old.left)) }
         ensures copied { IfOk result (λ n. buf.new ≡ take n self.old.left ++ drop n buf.old) }
         ensures read { IfOk result (λ n. self.new ≡ record self.old {
           left = drop n self.old.left;
-          calls = with_call self.old.calls false }) }
+          calls = with_call self.old.calls false;
+        }) }
+        ensures unread { OnErr result
+            (self.new ≡ record self.old { calls = with_call self.old.calls true }) }
         ensures end { IfOk result (λ n. n ≡ 0 → 0 < length buf.old → self.new.left ≡ []) }
         ensures count { self.old.calls.faults ≤ self.new.calls.faults }
-        ensures unread { OnErr result (self.new ≡ record self.old { calls = with_call self.old.calls true }) }
     {
         let failed = self.script.next_fails();
         self.script.count(failed);
@@ -82,5 +87,35 @@ impl Source for MemorySource {
         let n = copy_piece(&self.bytes.as_slice()[self.at..], self.step, buf);
         self.at += n;
         Ok(n)
+    }
+}
+
+#[cfg(test)]
+mod tests {
+    use super::*;
+    use std::test::Fail;
+
+    #[test]
+    fn gives_its_bytes_in_steps(rt: HostRuntime) -> Result<(), Fail> {
+        // What four reads of "abcdef" give; "!" stands for a failed one. Call 9 is never made.
+        let cases = [
+            (2, [9, 9], 4, ["ab", "cd", "ef", ""], 0),
+            (9, [9, 9], 5, ["abcde", "f", "", ""], 0),
+            (4, [9, 9], 3, ["abc", "def", "", ""], 0),
+            (4, [1, 2], 5, ["abcd", "!", "!", "ef"], 2),
+            (4, [0, 9], 0, ["!", "", "", ""], 1),
+        ];
+        for (step, failing, room, reads, faults) in cases {
+            assert!(rt; step > 0 && room <= 5);
+            let bytes = Blob::new(b"abcdef".to_vec(rt.alloc())?);
+            let mut source = MemorySource::new(bytes, step, failing.to_vec(rt.alloc())?);
+            for want in reads {
+                let mut buf = [b'!'; 5];
+                let n = source.read(&mut buf[..room]).unwrap_or(1);
+                assert_eq!(rt; &buf[..n], want.as_bytes(), "at step {step}");
+            }
+            assert_eq!(rt; source.faults(), faults, "at step {step}");
+        }
+        Ok(())
     }
 }

@@ -1,6 +1,6 @@
 //! Adapters over files and streams of the system. They tell nothing of their bytes.
 
-ghost use Rattle.std.specs.Prelude.{◌≡◌, ◌<◌, ◌≤◌, None, length, is_err, IfOk, if◌then◌else◌, refl};
+ghost use Rattle.std.specs.Prelude.{◌≡◌, ◌≢◌, ◌<◌, ◌≤◌, None, length, IfOk, OnOk, OnErr, refl};
 ghost use Rattle.desk_io.specs.InMemory.{raised_count};
 
 use super::outside::{Begin, Counted, Failed, Folder, Sink, Source};
@@ -51,11 +51,16 @@ impl<R: Files + Drop> Source for RealFolder<R> {
 
     ghost keeps_source_rest = { λ _ _. Unit {0} };
 
-    ghost source_rest_kept = { λ _. tt };
+    ghost source_rest_reflexive = { λ _. tt };
 
-    ghost source_rest_kept_on = { λ _ _ _ _ _. tt };
+    ghost source_rest_transitive = { λ _ _ _ _ _. tt };
 
-    fn read(&mut self, buf: &mut [u8]) -> Result<usize, Failed> {
+    fn read(&mut self, buf: &mut [u8]) -> Result<usize, Failed>
+        ensures within { IfOk result (λ n. n ≤ length buf.old) }
+        ensures ok { OnOk result (self.new ≡ self.old) }
+        ensures err { OnErr result (self.new ≡ raised_count self.old) }
+        ensures count { self.old ≤ self.new }
+    {
         let Some(file) = &mut self.begun else {
             return Ok(0);
         };
@@ -74,7 +79,11 @@ impl<R: Files + Drop> Folder for RealFolder<R> {
 
     ghost files_kept = { λ _ _ _. refl };
 
-    fn begin(&mut self, path: &str) -> Begin {
+    fn begin(&mut self, path: &str) -> Begin
+        ensures begun { result ≢ Begin.Failed → self.new ≡ self.old }
+        ensures failed { result ≡ Begin.Failed → self.new ≡ raised_count self.old }
+        ensures count { self.old ≤ self.new }
+    {
         self.begun = None;
         match fs::open(&self.rt, path) {
             Ok(file) => {
@@ -129,11 +138,17 @@ impl<W: Write + Drop> Sink for RealStream<W> {
 
     ghost keeps_sink_rest = { λ _ _. Unit {0} };
 
-    ghost sink_rest_kept = { λ _. tt };
+    ghost sink_rest_reflexive = { λ _. tt };
 
-    ghost sink_rest_kept_on = { λ _ _ _ _ _. tt };
+    ghost sink_rest_transitive = { λ _ _ _ _ _. tt };
 
-    fn write(&mut self, piece: &[u8]) -> Result<usize, Failed> {
+    fn write(&mut self, piece: &[u8]) -> Result<usize, Failed>
+        ensures within { IfOk result (λ n. n ≤ length piece.now) }
+        ensures some { IfOk result (λ n. 0 < length piece.now → 0 < n) }
+        ensures ok { OnOk result (self.new ≡ self.old) }
+        ensures err { OnErr result (self.new ≡ raised_count self.old) }
+        ensures count { self.old ≤ self.new }
+    {
         match self.stream.write(piece) {
             // A stream that takes none of a piece would take none for ever.
             Ok(n) if n > 0 || piece.is_empty() => Ok(n),
@@ -142,5 +157,52 @@ impl<W: Write + Drop> Sink for RealStream<W> {
                 Err(Failed)
             }
         }
+    }
+}
+
+#[cfg(test)]
+mod tests {
+    use super::*;
+    use crate::whole::{WriteFault, read_all, write_all};
+    use std::test::Fail;
+    use std::{env, process};
+
+    #[test]
+    fn reads_a_file_that_a_stream_wrote(rt: HostRuntime) -> Result<(), Fail> {
+        let mut path = env::temp_dir(&rt)?;
+        let process = process::id(rt.process());
+        path.push(format!(in rt.alloc(); "desk_io_{process}")?)?;
+        let mut stream = RealStream::new(fs::create(&rt, path.as_str())?);
+        assert_eq!(rt; write_all(&mut stream, b"nodes 2\n"), Ok(()));
+        assert_eq!(rt; stream.faults(), 0);
+
+        let mut folder = RealFolder::new(rt);
+        assert_eq!(rt; folder.begin(path.as_str()), Begin::Found);
+        let bytes = read_all(rt.alloc(), &mut folder, 8).ok();
+        assert_eq!(rt;
+            bytes.as_ref().map(|v| v.as_slice()),
+            Some(b"nodes 2\n".as_slice())
+        );
+        fs::remove_file(&rt, path.as_str())?;
+        assert_eq!(rt; folder.begin(path.as_str()), Begin::Missing);
+        assert_eq!(rt; folder.faults(), 0);
+        // A path with a zero byte is refused by the system.
+        assert_eq!(rt; folder.begin("a\0b"), Begin::Failed);
+        assert_eq!(rt; folder.faults(), 1);
+        Ok(())
+    }
+
+    #[test]
+    fn counts_a_written_length_of_zero(rt: HostRuntime) -> Result<(), Fail> {
+        let mut room = [0u8; 3];
+        let mut stream = RealStream::new(room.as_mut_slice());
+        assert_eq!(rt;
+            write_all(&mut stream, b"abcde"),
+            Err(WriteFault { sent: 3 })
+        );
+        assert_eq!(rt; stream.faults(), 1);
+        assert_eq!(rt; stream.write(b""), Ok(0));
+        assert_eq!(rt; stream.faults(), 1);
+        Ok(())
     }
 }

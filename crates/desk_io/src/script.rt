@@ -23,6 +23,7 @@ impl Model for Script {
 }
 
 impl Script {
+    /// No call was made yet.
     pub fn new(failing: Vec<u64>) -> Script
         ensures value { result ≡ no_calls failing.items }
     {
@@ -33,6 +34,7 @@ impl Script {
         }
     }
 
+    /// The number of failed calls.
     pub fn faults(&self) -> u64
         ensures value { result ≡ self.now.faults }
     {

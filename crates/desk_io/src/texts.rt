@@ -17,12 +17,14 @@ impl Model for Name {
 }
 
 impl Name {
+    /// The name with this text. It takes no memory.
     pub fn new(text: String) -> Name
         ensures value { result ≡ string_bytes text }
     {
         Name { text }
     }
 
+    /// The text.
     pub fn as_str(&self) -> &str
         ensures value { result.now ≡ self.now }
     {
@@ -30,7 +32,7 @@ impl Name {
     }
 }
 
-/// Bytes.
+/// Bytes that are handed on as one value.
 #[derive(Drop)]
 pub struct Blob {
     bytes: Vec<u8>,
@@ -43,12 +45,14 @@ impl Model for Blob {
 }
 
 impl Blob {
+    /// The blob of these bytes. It takes no memory.
     pub fn new(bytes: Vec<u8>) -> Blob
         ensures value { result ≡ bytes.items }
     {
         Blob { bytes }
     }
 
+    /// The bytes.
     pub fn as_slice(&self) -> &[u8]
         ensures value { result.now ≡ self.now }
     {
