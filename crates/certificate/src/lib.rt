@@ -1,7 +1,9 @@
 //! Certificates of an assignment to one destination, and their checker.
 #![tactic(auto)]
 
+mod bytes;
 mod checking;
+mod fault;
 mod refused;
 
 pub use checking::{Verdict, check_text};
