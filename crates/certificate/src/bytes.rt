@@ -1,6 +1,6 @@
 //! Readers from the front of bytes. Each gives what it read and the bytes after it.
 
-ghost use Rattle.std.specs.Prelude.{◌≡◌, ◌<◌};
+ghost use Rattle.std.specs.Prelude.{◌≡◌, ◌<◌, IfOk};
 ghost use Rattle.certificate.specs.Bytes.{Gives, digits_on, digits_at, byte_at, literal_at, number_at};
 
 use crate::fault::Fault;
@@ -56,6 +56,7 @@ fn more_digits(first: u64, bytes: &[u8]) -> (u128, &[u8])
 // A number: `0`, or a digit 1 to 9 and at most 27 more digits.
 fn digits_of(bytes: &[u8]) -> Result<(u128, &[u8]), Fault>
     ensures read { Gives (λ x. (x.0, x.1.now)) result (digits_at bytes.now) }
+    ensures below { IfOk result (λ x. x.0 < 10000000000000000000000000000) }
 {
     match bytes {
         [] => Err(Fault::Stop(0)),
@@ -96,6 +97,7 @@ pub fn literal_of<'a>(text: &[u8], bytes: &'a [u8]) -> Result<&'a [u8], Fault>
 #[tactic(auto, unfolding(crate::specs::Bytes::number_at))]
 pub fn number_of(end: u8, bytes: &[u8]) -> Result<(u128, &[u8]), Fault>
     ensures read { Gives (λ x. (x.0, x.1.now)) result (number_at end bytes.now) }
+    ensures below { IfOk result (λ x. x.0 < 10000000000000000000000000000) }
 {
     let (number, rest) = digits_of(bytes)?;
     let rest = byte_of(end, rest)?;

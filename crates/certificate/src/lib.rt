@@ -4,6 +4,7 @@
 mod bytes;
 mod checking;
 mod fault;
+mod lines;
 mod refused;
 
 pub use checking::{Verdict, check_text};
