@@ -9,17 +9,10 @@ abbrev pub ◌>>=◌ : {A B : Type 0} → Result A Fault → (A → Result B Fau
 (Ok x) >>= f = f x
 (Err e) >>= f = Err e
 
--- the reading stops so, or memory ran out
-abbrev pub Fails : {Y : Type 0} → Fault → Result Y Fault → Type 0
-Fails fault.NoMemory read = Unit {0}
-Fails (fault.Stop left) read = read ≡ Err (fault.Stop left)
-Fails (fault.Range limit count) read = read ≡ Err (fault.Range limit count)
-Fails (fault.Arc inner) read = read ≡ Err (fault.Arc inner)
-
--- what a function returned, seen by a view, is what the reading gives, unless memory ran out
+-- what a function returned, seen by a view, is what the reading gives
 abbrev pub Gives : {X Y : Type 0} → (X → Y) → Result X Fault → Result Y Fault → Type 0
 Gives view (Ok x) read = read ≡ Ok (view x)
-Gives view (Err e) read = Fails e read
+Gives view (Err e) read = read ≡ Err e
 
 -- whether a byte is one of `0` to `9`
 abbrev pub is_digit : ℕ → Bool

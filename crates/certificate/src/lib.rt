@@ -3,9 +3,12 @@
 
 mod bytes;
 mod checking;
+mod draft;
 mod fault;
 mod lines;
 mod refused;
+mod rows;
+mod stage;
 
 pub use checking::{Verdict, check_text};
 pub use refused::{Limit, Refused};
