@@ -1,2 +1,4 @@
 pub mod Sums
 pub mod DualityLemmas
+pub mod Spans
+pub mod Grouped
