@@ -78,18 +78,31 @@ spread net f i =
     sum_by-filter f (is_boarding net) (out_arcs net i)
     ∙ sum_by-filter (λ a. cond (is_boarding net a) (f a) 0) (λ a. tail_of net a == i) (arc_numbers net)
 
+-- the savings at a node, by the label of each arc's tail
+savings_by_tail : (net : NetworkData) (u : List ℕ) (i : ℕ) →
+    sum_by (λ a. cond (tail_of net a == i) (cond (is_boarding net a) (weight_of net a * saving net u (get_or u (tail_of net a) 0) a) 0) 0) (arc_numbers net)
+    ≡ sum_by (λ a. weight_of net a * saving net u (get_or u i 0) a) (boarding_arcs net i)
+savings_by_tail net u i =
+    range_same (λ a. cond (tail_of net a == i) (cond (is_boarding net a) (weight_of net a * saving net u (get_or u (tail_of net a) 0) a) 0) 0)
+    (λ a. cond (tail_of net a == i) (cond (is_boarding net a) (weight_of net a * saving net u (get_or u i 0) a) 0) 0) 0 (length net.arcs)
+    (λ a low high. elim (eqb_tells (tail_of net a) i) [
+      | inl w ↦ rw w.1 refl
+      | inr w ↦ rw w.0 refl
+    ])
+    ∙ sym (spread net (λ a. weight_of net a * saving net u (get_or u i 0) a) i)
+
 -- what the labels of a node's boarding arcs are worth is within its wait
 node_worth : (net : NetworkData) (r m : ℕ) (g u x q : List ℕ) → IsWellFormed net → IsDualFeasible net r u → IsPlan net r m g x q →
     (i : ℕ) → i < net.nodes → i ≢ r →
-    sum_by (λ a. cond (tail_of net a == i) (cond (is_boarding net a) (get_or x a 0 * saving net u a) 0) 0) (arc_numbers net) ≤ get_or q i 0
+    sum_by (λ a. cond (tail_of net a == i) (cond (is_boarding net a) (get_or x a 0 * saving net u (get_or u (tail_of net a) 0) a) 0) 0) (arc_numbers net) ≤ get_or q i 0
 node_worth net r m g u x q sound dual plan i lt ne =
-    let worth : ℕ → ℕ = λ a. cond (tail_of net a == i) (cond (is_boarding net a) (get_or x a 0 * saving net u a) 0) 0 in
-    let price : ℕ → ℕ = λ a. cond (tail_of net a == i) (cond (is_boarding net a) (weight_of net a * saving net u a) 0) 0 in
-    let priced : sum_by price (arc_numbers net) ≤ net.k = rw (← spread net (λ a. weight_of net a * saving net u a) i) (dual.boarding i lt ne) in
+    let worth : ℕ → ℕ = λ a. cond (tail_of net a == i) (cond (is_boarding net a) (get_or x a 0 * saving net u (get_or u (tail_of net a) 0) a) 0) 0 in
+    let price : ℕ → ℕ = λ a. cond (tail_of net a == i) (cond (is_boarding net a) (weight_of net a * saving net u (get_or u (tail_of net a) 0) a) 0) 0 in
+    let priced : sum_by price (arc_numbers net) ≤ net.k = rw (savings_by_tail net u i) (dual.boarding i lt ne) in
     let shared : net.k * sum_by worth (arc_numbers net) ≤ get_or q i 0 * sum_by price (arc_numbers net) =
     rw (sum_by-scale net.k worth (arc_numbers net), sum_by-scale (get_or q i 0) price (arc_numbers net))
     (range_le (λ a. net.k * worth a) (λ a. get_or q i 0 * price a) 0 (length net.arcs)
-    (λ a low high. arc_share (tail_of net a == i) (is_boarding net a) net.k (get_or q i 0) (get_or x a 0) (weight_of net a) (saving net u a)
+    (λ a low high. arc_share (tail_of net a == i) (is_boarding net a) net.k (get_or q i 0) (get_or x a 0) (weight_of net a) (saving net u (get_or u (tail_of net a) 0) a)
     (λ here boards. let at_tail = ap (λ t. weight_of net a * get_or q t 0) (eqb-true (tail_of net a) i here) in
     let w : net.k * get_or x a 0 ≤ weight_of net a * get_or q (tail_of net a) 0 = plan.waited_for a (omega arith) boards in
     omega arith))) in
@@ -98,7 +111,7 @@ node_worth net r m g u x q sound dual plan i lt ne =
       | inr none ↦
           let nothing : sum_by worth (arc_numbers net) ≡ sum_by (λ _. 0) (arc_numbers net) =
           range_same worth (λ _. 0) 0 (length net.arcs) (λ a low high.
-          no_share (tail_of net a == i) (is_boarding net a) (get_or x a 0) (weight_of net a) (saving net u a)
+          no_share (tail_of net a == i) (is_boarding net a) (get_or x a 0) (weight_of net a) (saving net u (get_or u (tail_of net a) 0) a)
           (λ here boards. sound.weights a (omega arith) boards)
           (zero_term price (length net.arcs) a (omega arith) (omega arith))) in
           rw (nothing, sum_by-none (arc_numbers net)) (omega arith)
@@ -106,10 +119,10 @@ node_worth net r m g u x q sound dual plan i lt ne =
 
 -- the same where the node's label is 0
 goal_worth : (net : NetworkData) (u x : List ℕ) (i : ℕ) → get_or u i 0 ≡ 0 →
-    sum_by (λ a. cond (tail_of net a == i) (cond (is_boarding net a) (get_or x a 0 * saving net u a) 0) 0) (arc_numbers net) ≤ 0
+    sum_by (λ a. cond (tail_of net a == i) (cond (is_boarding net a) (get_or x a 0 * saving net u (get_or u (tail_of net a) 0) a) 0) 0) (arc_numbers net) ≤ 0
 goal_worth net u x i none =
     rw (
-      range_same (λ a. cond (tail_of net a == i) (cond (is_boarding net a) (get_or x a 0 * saving net u a) 0) 0) (λ _. 0) 0 (length net.arcs)
+      range_same (λ a. cond (tail_of net a == i) (cond (is_boarding net a) (get_or x a 0 * saving net u (get_or u (tail_of net a) 0) a) 0) 0) (λ _. 0) 0 (length net.arcs)
           (λ a low high. worthless (tail_of net a == i) (is_boarding net a) (get_or x a 0) (get_or u (tail_of net a) 0) (get_or u (head_of net a) 0 + cost_of net a)
           (λ here. ap (λ t. get_or u t 0) (eqb-true (tail_of net a) i here) ∙ none)),
       sum_by-none (arc_numbers net),
@@ -142,7 +155,7 @@ balanced net r m g u x q sound long dual plan =
 
 pub duality : WeakDuality
 duality net r g u sound long dual m x q plan =
-    let worth : ℕ → ℕ = λ a. cond (is_boarding net a) (get_or x a 0 * saving net u a) 0 in
+    let worth : ℕ → ℕ = λ a. cond (is_boarding net a) (get_or x a 0 * saving net u (get_or u (tail_of net a) 0) a) 0 in
     let there : ℕ → ℕ = λ a. get_or u (head_of net a) 0 * get_or x a 0 in
     let travel : ℕ → ℕ = λ a. cost_of net a * get_or x a 0 in
     let arcs_worth : sum_by (λ a. get_or u (tail_of net a) 0 * get_or x a 0) (arc_numbers net) ≤ sum_by there (arc_numbers net) + sum_by travel (arc_numbers net) + sum_by worth (arc_numbers net) =

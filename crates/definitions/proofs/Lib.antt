@@ -2,3 +2,4 @@ pub mod Sums
 pub mod DualityLemmas
 pub mod Spans
 pub mod Grouped
+pub mod KnownValues

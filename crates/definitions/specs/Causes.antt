@@ -5,6 +5,6 @@ use Rattle.std.specs.Prelude.{◌≡◌, ℕ}
 abbrev pub last_count : ℕ
 last_count = 18446744073709551615
 
--- the count rose: it is another than before, unless it stands at its last value
+-- a count that does not fall rose: it is another than before, unless it stands at its last value
 abbrev pub Rose : ℕ → ℕ → Type 0
 Rose old new = new ≡ old → old ≡ last_count

@@ -2,7 +2,7 @@
 use Rattle.std.specs.Prelude.{ℕ, List, [], ◌∷◌, ◌++◌, codes}
 use Rattle.std.specs.Fmt.{decimal}
 
--- the decimal digits of a number: `0`, or digits of which the first is not 0
+-- the decimal digits of a number below 10^64: `0`, or digits of which the first is not 0
 abbrev pub numeral : ℕ → List ℕ
 numeral = decimal
 

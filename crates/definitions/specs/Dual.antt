@@ -8,13 +8,13 @@ use Rattle.definitions.specs.Network.{NetworkData, tail_of, head_of, cost_of, we
 abbrev pub time_through : NetworkData → List ℕ → ℕ → ℕ
 time_through net labels arc = slice_index labels (head_of net arc) + cost_of net arc
 
--- what an arc saves against the label of its tail, 0 where it saves nothing
-abbrev pub saving : NetworkData → List ℕ → ℕ → ℕ
-saving net labels arc = slice_index labels (tail_of net arc) - time_through net labels arc
+-- what an arc saves against a label at its tail, 0 where it saves nothing
+abbrev pub saving : NetworkData → List ℕ → ℕ → ℕ → ℕ
+saving net labels label arc = label - time_through net labels arc
 
--- the savings of a node's boarding arcs, each times its weight
-abbrev pub weighted_savings : NetworkData → List ℕ → ℕ → ℕ
-weighted_savings net labels node = sum_by (λ arc. weight_of net arc * saving net labels arc) (boarding_arcs net node)
+-- what arcs save against a label at their tail, each times its weight
+abbrev pub weighted_savings : NetworkData → List ℕ → List ℕ → ℕ → ℕ
+weighted_savings net labels arcs label = sum_by (λ arc. weight_of net arc * saving net labels label arc) arcs
 
 -- labels that are 0 at the destination, and elsewhere no higher than the node's arcs permit
 pub record IsDualFeasible (net : NetworkData) (destination : ℕ) (labels : List ℕ) : Type 0 where
@@ -22,7 +22,8 @@ pub record IsDualFeasible (net : NetworkData) (destination : ℕ) (labels : List
   pub zero_at_destination : slice_index labels destination ≡ 0
   pub free_arcs : (arc : ℕ) → arc < length net.arcs → tail_of net arc ≢ destination → IsFalse (is_boarding net arc) →
       slice_index labels (tail_of net arc) ≤ time_through net labels arc
-  pub boarding : (node : ℕ) → node < net.nodes → node ≢ destination → weighted_savings net labels node ≤ net.k
+  pub boarding : (node : ℕ) → node < net.nodes → node ≢ destination →
+      weighted_savings net labels (boarding_arcs net node) (slice_index labels node) ≤ net.k
 
 -- the bound of a demand and labels: the demand of each node times its label
 abbrev pub bound_of_labels : List ℕ → List ℕ → ℕ

