@@ -2,6 +2,7 @@
 #![tactic(auto)]
 
 mod fault;
+mod grouping;
 mod wide_arc;
 
 pub use definitions::NetArc;
