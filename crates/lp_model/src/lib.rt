@@ -3,8 +3,11 @@
 
 mod fault;
 mod grouping;
+mod judging;
+mod network;
 mod wide_arc;
 
 pub use definitions::NetArc;
 pub use fault::{Limit, NetFault};
+pub use network::Network;
 pub use wide_arc::WideArc;
