@@ -9,7 +9,7 @@ ghost use Rattle.lp_model.specs.Faults.{network_faults, first_fault};
 ghost use Rattle.lp_model.specs.Indexed.{network_of, first_arc};
 
 use crate::fault::NetFault;
-use crate::grouping::{End, firsts_of, group};
+use crate::grouping::{End, firsts_of, group, part_of};
 use crate::judging::{judge_arcs, judge_sizes};
 use definitions::NetArc;
 use std::alloc::AllocError;
@@ -93,6 +93,47 @@ impl Network {
         ensures within { result ≤ K_LIMIT }
     {
         self.k
+    }
+
+    /// The arc of a number.
+    pub fn arc(&self, a: u32) -> &NetArc
+        requires { a < length self.now.arcs }
+        ensures value { result.now ≡ arc_at self.now a }
+        ensures tail { result.now.tail < self.now.nodes }
+        ensures head { result.now.head < self.now.nodes }
+        ensures cost { (0 < result.now.cost) × (result.now.cost ≤ COST_LIMIT) }
+        ensures weight { IfSome result.now.weight (λ weight. (0 < weight) × (weight ≤ WEIGHT_LIMIT)) }
+    {
+        self.rules();
+        &self.arcs[a as usize]
+    }
+
+    /// How many arcs have a tail below `n`: the number of the first arc of `out(n)`, where it has
+    /// one.
+    pub fn first(&self, n: u32) -> u32
+        requires { n < self.now.nodes }
+        ensures value { result ≡ first_arc self.now n }
+        ensures within { result + length (out_arcs self.now n) ≤ length self.now.arcs }
+    {
+        self.firsts[n as usize]
+    }
+
+    /// The arcs that leave node `n`, in order. They are numbered from `first(n)` on.
+    pub fn out(&self, n: u32) -> &[NetArc]
+        requires { n < self.now.nodes }
+        ensures arcs { result.now ≡ map (arc_at self.now) (out_arcs self.now n) }
+        ensures numbers { out_arcs self.now n ≡ range_with_len (first_arc self.now n) (length result.now) }
+    {
+        part_of(&self.arcs, &self.firsts, n)
+    }
+
+    /// The numbers of the arcs that enter node `n`, increasing.
+    pub fn into(&self, n: u32) -> &[u32]
+        requires { n < self.now.nodes }
+        ensures value { result.now ≡ in_arcs self.now n }
+        ensures within { All (λ arc. arc < length self.now.arcs) result.now }
+    {
+        part_of(&self.into_arcs, &self.into_firsts, n)
     }
 }
 
