@@ -1,3 +1,5 @@
 pub mod Sums
 pub mod DualityLemmas
+pub mod Spans
+pub mod Grouped
 pub mod KnownValues

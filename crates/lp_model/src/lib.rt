@@ -2,8 +2,12 @@
 #![tactic(auto)]
 
 mod fault;
+mod grouping;
+mod judging;
+mod network;
 mod wide_arc;
 
 pub use definitions::NetArc;
 pub use fault::{Limit, NetFault};
+pub use network::Network;
 pub use wide_arc::WideArc;
