@@ -6,3 +6,5 @@ pub mod Lines
 pub mod Rows
 pub mod Draft
 pub mod DraftFields
+pub mod Judged
+pub mod Claims

@@ -3,6 +3,7 @@
 
 mod bytes;
 mod checking;
+mod claim;
 mod draft;
 mod fault;
 mod lines;
