@@ -2,4 +2,5 @@ pub mod Sums
 pub mod DualityLemmas
 pub mod Spans
 pub mod Grouped
+pub mod TotalsLemmas
 pub mod KnownValues

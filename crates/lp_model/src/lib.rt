@@ -1,6 +1,7 @@
 //! Networks, and the totals of flows and labels on them.
 #![tactic(auto)]
 
+mod boarding;
 mod fault;
 mod grouping;
 mod judging;

@@ -1,13 +1,15 @@
 //! A network, judged once, with the arcs of each node at hand.
 
-ghost use Rattle.std.specs.Prelude.{◌≡◌, ℕ, ◌+◌, ◌*◌, ◌<◌, ◌≤◌, ◌⊎◌, [], All, length, map, Some, IfOk, OnOk, IfErr, IfSome};
+ghost use Rattle.std.specs.Prelude.{◌≡◌, ℕ, ◌+◌, ◌*◌, ◌<◌, ◌≤◌, ◌⊎◌, [], All, length, map, Some, IfOk, OnOk, IfErr, IfSome, IsTrue};
 ghost use Rattle.std.specs.List.{range_with_len};
 ghost use Rattle.definitions.specs.declared.limits.TheConstants.{NODE_LIMIT, ARC_LIMIT, K_LIMIT, COST_LIMIT, WEIGHT_LIMIT};
-ghost use Rattle.definitions.specs.Network.{IsNetwork, arc_at, out_arcs, in_arcs};
+ghost use Rattle.definitions.specs.Network.{IsNetwork, arc_at, is_boarding, weight_of, out_arcs, in_arcs};
+ghost use Rattle.definitions.specs.Totals.{boarding_stops, least_weight, longest_wait};
 ghost use Rattle.lp_model.specs.declared.fault.NetFault.TheVariants.{NoMemory};
 ghost use Rattle.lp_model.specs.Faults.{network_faults, first_fault};
 ghost use Rattle.lp_model.specs.Indexed.{network_of, first_arc};
 
+use crate::boarding::{has_boarding, least_weight_of};
 use crate::fault::NetFault;
 use crate::grouping::{End, firsts_of, group, part_of};
 use crate::judging::{judge_arcs, judge_sizes};
@@ -134,6 +136,39 @@ impl Network {
         ensures within { All (λ arc. arc < length self.now.arcs) result.now }
     {
         part_of(&self.into_arcs, &self.into_firsts, n)
+    }
+
+    /// How many nodes have a boarding arc, in linear time.
+    pub fn boarding_stops(&self) -> u32
+        ensures value { result ≡ boarding_stops self.now }
+        ensures within { result ≤ NODE_LIMIT }
+    {
+        let mut stops = 0;
+        for node in 0..self.nodes() {
+            stops += u32::from(has_boarding(self.out(node)));
+        }
+        stops
+    }
+
+    /// The least weight of a boarding arc, 0 where there is none, in linear time.
+    pub fn least_weight(&self) -> u32
+        ensures value { result ≡ least_weight self.now }
+    {
+        least_weight_of(&self.arcs)
+    }
+
+    /// The longest wait for one boarding arc alone, in ticks rounded up, 0 where there is none, in
+    /// linear time.
+    pub fn longest_wait(&self) -> u64
+        ensures value { result ≡ longest_wait self.now }
+        ensures within { result ≤ K_LIMIT }
+        ensures enough { (arc : ℕ) → arc < length self.now.arcs → IsTrue (is_boarding self.now arc) → self.now.k ≤ result * weight_of self.now arc }
+    {
+        self.rules();
+        match self.least_weight() {
+            0 => 0,
+            least => self.k().div_ceil(least as u64),
+        }
     }
 }
 
