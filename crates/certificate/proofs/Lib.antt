@@ -4,3 +4,4 @@ pub mod Taken
 pub mod Growth
 pub mod Keeping
 pub mod Memory
+pub mod OwnArcs

@@ -1,5 +1,5 @@
 -- What is judged of a certificate whose lines are good, and the first refusal of each kind. Here: docs/FORMATS.md.
-use Rattle.std.specs.Prelude.{◌≡◌, ◌≢◌, ℕ, ◌*◌, ◌<◌, ◌≤◌, length, IsTrue, IsFalse, None, Some, slice_index}
+use Rattle.std.specs.Prelude.{◌≡◌, ◌≢◌, ℕ, ◌*◌, ◌<◌, ◌≤◌, ◌⊎◌, length, IsTrue, IsFalse, None, Some, slice_index}
 use Rattle.definitions.specs.Network.{tail_of, weight_of, is_boarding, boarding_arcs}
 use Rattle.definitions.specs.Plan.{flow_out_of, due_at, Conserves, IsWaitedFor}
 use Rattle.definitions.specs.Dual.{time_through, weighted_savings}

@@ -46,7 +46,7 @@ impl Claim {
         requires here { node ≡ self.now.destination }
         ensures judged { MatchOption result (slice_index self.now.labels node ≡ 0) (IsNotZero self.now node) }
     {
-        let label = self.labels[node as usize];
+        let label = self.label(node);
         if label == 0 {
             return None;
         }
@@ -63,7 +63,7 @@ impl Claim {
         requires within { node < self.now.nodes }
         ensures judged { MatchOption result (AreFreeArcsKept self.now node) (IsFreeArcBroken self.now node) }
     {
-        let label = self.labels[node as usize];
+        let label = self.label(node);
         let (first, end) = self.own_arcs(node);
         for arc in first..end {
             if let Some(through) = self.leads_below(arc, label) {
@@ -96,6 +96,14 @@ impl Claim {
             });
         }
         None
+    }
+
+    // The label of a node.
+    fn label(&self, node: u32) -> u64
+        requires within { node < self.now.nodes }
+        ensures value { result ≡ slice_index self.now.labels node }
+    {
+        self.labels[node as usize]
     }
 
     // The number of a node's first arc, and the number after that of its last.
@@ -142,7 +150,7 @@ impl Claim {
         requires within { node < self.now.nodes }
         ensures value { result ≡ savings_at self.now node }
     {
-        let label = self.labels[node as usize];
+        let label = self.label(node);
         let (first, end) = self.own_arcs(node);
         let mut total = 0;
         for arc in first..end {
