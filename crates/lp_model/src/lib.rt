@@ -6,9 +6,11 @@ mod fault;
 mod grouping;
 mod judging;
 mod network;
+mod totals;
 mod wide_arc;
 
 pub use definitions::NetArc;
 pub use fault::{Limit, NetFault};
 pub use network::Network;
+pub use totals::{bound_of, cost_of, flow_in, flow_out, slack};
 pub use wide_arc::WideArc;

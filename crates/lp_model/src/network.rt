@@ -125,6 +125,7 @@ impl Network {
         requires { n < self.now.nodes }
         ensures arcs { result.now ≡ map (arc_at self.now) (out_arcs self.now n) }
         ensures numbers { out_arcs self.now n ≡ range_with_len (first_arc self.now n) (length result.now) }
+        ensures within { first_arc self.now n + length result.now ≤ length self.now.arcs }
     {
         part_of(&self.arcs, &self.firsts, n)
     }
@@ -133,7 +134,8 @@ impl Network {
     pub fn into(&self, n: u32) -> &[u32]
         requires { n < self.now.nodes }
         ensures value { result.now ≡ in_arcs self.now n }
-        ensures within { All (λ arc. arc < length self.now.arcs) result.now }
+        ensures there { All (λ arc. arc < length self.now.arcs) result.now }
+        ensures within { length result.now ≤ length self.now.arcs }
     {
         part_of(&self.into_arcs, &self.into_firsts, n)
     }
