@@ -5,3 +5,6 @@ pub mod Growth
 pub mod Keeping
 pub mod Memory
 pub mod OwnArcs
+pub mod LabelLemmas
+pub mod Faultless
+pub mod Verdicts

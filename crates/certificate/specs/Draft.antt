@@ -180,3 +180,8 @@ IsAtStage stage.K d = HasNoRows d
 IsAtStage stage.Destination d = HasNoRows d
 IsAtStage stage.Rows d = HasRows d
 IsAtStage stage.Done d = IsWhole d
+
+-- what every draft keeps
+pub record IsKept (d : DraftData) : Type 0 where
+  pub sizes : HasSizes d
+  pub rows : IsAtStage d.stage d

@@ -86,3 +86,32 @@ pub record IsFirstRefusal (count : ℕ) (Kept : ℕ → Type 0) (Broken : ℕ �
   pub within : at < count
   pub broken : Broken at answer
   pub kept_before : (before : ℕ) → before < at → Kept before
+
+-- each node is conserved
+abbrev pub IsConserved : Certificate → Type 0
+IsConserved c = (node : ℕ) → node < c.nodes → IsConservedAt c node
+
+-- the first node is not
+abbrev pub IsFirstUnconserved : Certificate → Refused → Type 0
+IsFirstUnconserved c = IsFirstRefusal c.nodes (IsConservedAt c) (IsUnconserved c)
+
+-- each arc is waited for
+abbrev pub IsWaited : Certificate → Type 0
+IsWaited c = (arc : ℕ) → arc < length c.arcs → IsWaitedAt c arc
+
+-- the first arc is not
+abbrev pub IsFirstWaitShort : Certificate → Refused → Type 0
+IsFirstWaitShort c = IsFirstRefusal (length c.arcs) (IsWaitedAt c) (IsWaitShort c)
+
+-- each label is kept
+abbrev pub AreLabelsKept : Certificate → Type 0
+AreLabelsKept c = (node : ℕ) → node < c.nodes → IsLabelKept c node
+
+-- the first label is not
+abbrev pub IsFirstLabelBroken : Certificate → Refused → Type 0
+IsFirstLabelBroken c = IsFirstRefusal c.nodes (IsLabelKept c) (IsLabelBroken c)
+
+-- the first that fails of conservation, waits and labels, in this order
+abbrev pub IsFirstFailure : Certificate → Refused → Type 0
+IsFirstFailure c answer =
+    IsFirstUnconserved c answer ⊎ (IsConserved c × (IsFirstWaitShort c answer ⊎ (IsWaited c × IsFirstLabelBroken c answer)))

@@ -8,3 +8,4 @@ pub mod Draft
 pub mod DraftFields
 pub mod Judged
 pub mod Claims
+pub mod Refusals

@@ -2,10 +2,11 @@
 
 ghost use Rattle.std.specs.Prelude.{◌≡◌, ◌≢◌, ◌↔◌, IsTrue, IfOk, OnErr};
 ghost use Rattle.certificate.specs.Bytes.{Gives};
-ghost use Rattle.certificate.specs.Draft.{Took, line_at};
+ghost use Rattle.certificate.specs.Draft.{IsKept, Took, line_at};
 
 mod header_lines;
 mod row_lines;
+mod whole;
 
 use crate::fault::Fault;
 use crate::rows::Rows;
@@ -60,6 +61,7 @@ impl Draft {
     /// Whether the last line is read.
     pub fn is_done(&self) -> bool
         ensures value { IsTrue result ↔ (self.now.stage ≡ Stage.Done) }
+        ensures kept { IsKept self.now }
     {
         self.stage == Stage::Done
     }

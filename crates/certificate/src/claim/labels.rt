@@ -5,7 +5,7 @@ ghost use Rattle.std.specs.List.{range_with_len};
 ghost use Rattle.definitions.specs.Network.{is_boarding, weight_of, out_arcs};
 ghost use Rattle.definitions.specs.Dual.{saving, time_through};
 ghost use Rattle.certificate.specs.Spelling.{network_of};
-ghost use Rattle.certificate.specs.Judged.{IsLabelKept, IsLabelBroken, IsNotZero, AreFreeArcsKept, IsFreeArcBroken, savings_at, IsFirstRefusal};
+ghost use Rattle.certificate.specs.Judged.{IsLabelKept, IsLabelBroken, IsNotZero, AreFreeArcsKept, IsFreeArcBroken, savings_at, AreLabelsKept, IsFirstLabelBroken};
 
 use crate::claim::Claim;
 use crate::refused::Refused;
@@ -15,8 +15,8 @@ impl Claim {
     /// permit. A refusal is that of the first node whose label is too high: at its first free arc,
     /// or else for its boarding arcs together.
     pub fn judge_labels(&self) -> Result<(), Refused>
-        ensures ok { OnOk result ((node : ℕ) → node < self.now.nodes → IsLabelKept self.now node) }
-        ensures refused { IfErr result (IsFirstRefusal self.now.nodes (IsLabelKept self.now) (IsLabelBroken self.now)) }
+        ensures ok { OnOk result (AreLabelsKept self.now) }
+        ensures refused { IfErr result (IsFirstLabelBroken self.now) }
     {
         for node in 0..self.network.nodes() {
             if let Some(refused) = self.label_refusal(node) {

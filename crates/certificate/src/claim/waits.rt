@@ -2,7 +2,7 @@
 
 ghost use Rattle.std.specs.Prelude.{◌≡◌, ℕ, ◌*◌, ◌^◌, ◌<◌, ◌≤◌, length, MatchOption, OnOk, IfErr};
 ghost use Rattle.definitions.specs.declared.limits.TheConstants.{WAIT_LIMIT};
-ghost use Rattle.certificate.specs.Judged.{IsWaitedAt, IsWaitShort, IsFirstRefusal};
+ghost use Rattle.certificate.specs.Judged.{IsWaitedAt, IsWaitShort, IsWaited, IsFirstWaitShort};
 
 use crate::claim::Claim;
 use crate::refused::Refused;
@@ -11,8 +11,8 @@ impl Claim {
     /// Whether each boarding arc takes no more than the wait at its tail allows. A refusal is that
     /// of the first arc that takes more.
     pub fn judge_waits(&self) -> Result<(), Refused>
-        ensures ok { OnOk result ((arc : ℕ) → arc < length self.now.arcs → IsWaitedAt self.now arc) }
-        ensures refused { IfErr result (IsFirstRefusal (length self.now.arcs) (IsWaitedAt self.now) (IsWaitShort self.now)) }
+        ensures ok { OnOk result (IsWaited self.now) }
+        ensures refused { IfErr result (IsFirstWaitShort self.now) }
     {
         for arc in 0..self.network.arcs() {
             if let Some(refused) = self.wait_refusal(arc) {
