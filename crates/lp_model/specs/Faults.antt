@@ -40,9 +40,13 @@ abbrev pub tail_before : NetworkData → ℕ → ℕ
 tail_before net zero = 0
 tail_before net (suc arc) = tail_of net arc
 
--- the faults of a network: those of its sizes, then those of each arc in turn
+-- the faults of the arcs, each in turn
+abbrev pub arcs_faults : NetworkData → List NetFault
+arcs_faults net = flat_map (λ arc. arc_faults net.nodes (tail_before net arc) arc (arc_at net arc)) (arc_numbers net)
+
+-- the faults of a network: those of its sizes, then those of its arcs
 abbrev pub network_faults : NetworkData → List NetFault
-network_faults net = size_faults net ++ flat_map (λ arc. arc_faults net.nodes (tail_before net arc) arc (arc_at net arc)) (arc_numbers net)
+network_faults net = size_faults net ++ arcs_faults net
 
 -- the fault that is answered
 abbrev pub first_fault : NetworkData → Option NetFault

@@ -1,2 +1,4 @@
 pub mod Faults
+pub mod Grouping
+pub mod Indexed
 pub mod Wide

@@ -1,5 +1,10 @@
 //! Why numbers make no network.
 
+ghost use Rattle.std.specs.Prelude.{◌≡◌};
+ghost use Rattle.lp_model.specs.declared.fault.NetFault.TheVariants.{NoMemory};
+
+use std::alloc::AllocError;
+
 /// A limit of a network. docs/FORMATS.md has their values.
 #[derive(Clone, Copy, Debug, Drop, PartialEq, Eq)]
 pub enum Limit {
@@ -24,4 +29,12 @@ pub enum NetFault {
     /// The arc's tail is below the tail of the arc before.
     NotGrouped { arc: u32 },
     NoMemory,
+}
+
+impl From<AllocError> for NetFault {
+    ghost from_gives = { λ _ fault. fault ≡ NoMemory };
+
+    fn from(_error: AllocError) -> NetFault {
+        NetFault::NoMemory
+    }
 }

@@ -1,9 +1,16 @@
 //! Networks, and the totals of flows and labels on them.
 #![tactic(auto)]
 
+mod boarding;
 mod fault;
+mod grouping;
+mod judging;
+mod network;
+mod totals;
 mod wide_arc;
 
 pub use definitions::NetArc;
 pub use fault::{Limit, NetFault};
+pub use network::Network;
+pub use totals::{bound_of, cost_of, flow_in, flow_out, slack};
 pub use wide_arc::WideArc;

@@ -16,6 +16,19 @@ pub struct WideArc {
     pub weight: Option<u128>,
 }
 
+impl From<NetArc> for WideArc {
+    ghost from_gives = { λ arc wide. arc_of_wide wide ≡ arc };
+
+    fn from(arc: NetArc) -> WideArc {
+        WideArc {
+            tail: arc.tail as u128,
+            head: arc.head as u128,
+            cost: arc.cost as u128,
+            weight: arc.weight.map(|weight| weight as u128),
+        }
+    }
+}
+
 impl WideArc {
     /// The arc of these numbers as arc `number` of a network of so many nodes, where `before` is
     /// the tail of the arc before, 0 for the first.

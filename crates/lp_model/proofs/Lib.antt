@@ -1,0 +1,4 @@
+pub mod BoardingLemmas
+pub mod FaultLemmas
+pub mod IndexLemmas
+pub mod PlacingLemmas
