@@ -192,3 +192,6 @@ fn index(nodes: u32, arcs: Vec<NetArc>, k: u64) -> Result<Network, AllocError>
         into_firsts,
     })
 }
+
+#[cfg(test)]
+pub(crate) mod tests;
