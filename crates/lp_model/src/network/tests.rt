@@ -46,19 +46,59 @@ fn the_first_fault_is_answered(rt: HostRuntime) -> Result<(), Fail> {
     let fine = arc(0, 1, 1, None);
     let range = |limit, count| NetFault::Range { limit, count };
     let cases = [
-        (NODE_LIMIT + 1, fine, fine, K_LIMIT + 1, range(Limit::Nodes, 1_048_577)),
-        (2, arc(0, 2, 1, None), fine, K_LIMIT + 1, range(Limit::K, 345_600_000_001)),
+        (
+            NODE_LIMIT + 1,
+            fine,
+            fine,
+            K_LIMIT + 1,
+            range(Limit::Nodes, 1_048_577),
+        ),
+        (
+            2,
+            arc(0, 2, 1, None),
+            fine,
+            K_LIMIT + 1,
+            range(Limit::K, 345_600_000_001),
+        ),
         (2, arc(0, 3, 1, None), arc(2, 0, 1, None), 1, outside(0, 3)),
         (2, arc(5, 3, 0, None), fine, 1, outside(0, 5)),
         (2, arc(1, 3, 0, None), fine, 1, outside(0, 3)),
-        (2, arc(1, 0, 0, Some(0)), fine, 1, NetFault::ZeroCost { arc: 0 }),
-        (2, arc(1, 0, COST_LIMIT + 1, Some(0)), fine, 1, range(Limit::Cost, 1_000_000_001)),
-        (2, arc(1, 0, 1, None), arc(0, 1, 1, Some(0)), 1, NetFault::ZeroWeight { arc: 1 }),
-        (2, arc(1, 0, 1, None), fine, 1, NetFault::NotGrouped { arc: 1 }),
+        (
+            2,
+            arc(1, 0, 0, Some(0)),
+            fine,
+            1,
+            NetFault::ZeroCost { arc: 0 },
+        ),
+        (
+            2,
+            arc(1, 0, COST_LIMIT + 1, Some(0)),
+            fine,
+            1,
+            range(Limit::Cost, 1_000_000_001),
+        ),
+        (
+            2,
+            arc(1, 0, 1, None),
+            arc(0, 1, 1, Some(0)),
+            1,
+            NetFault::ZeroWeight { arc: 1 },
+        ),
+        (
+            2,
+            arc(1, 0, 1, None),
+            fine,
+            1,
+            NetFault::NotGrouped { arc: 1 },
+        ),
     ];
     for (nodes, one, two, k, fault) in cases {
         let arcs = vec![in rt.alloc(); one, two]?;
-        assert_eq!(rt; Network::new(nodes, arcs, k).err(), Some(fault), "{fault:?}");
+        assert_eq!(rt;
+            Network::new(nodes, arcs, k).err(),
+            Some(fault),
+            "{fault:?}"
+        );
     }
     Ok(())
 }

@@ -28,7 +28,14 @@ fn flow_is_conserved(rt: HostRuntime) -> Result<(), Fail> {
     let network = four_stops(rt.alloc())?;
     assert_eq!(rt; network.arcs(), 10);
     let flows = [6, 6, 0, 0, 1, 5, 0, 6, 0, 0];
-    for (node, into, out) in [(0, 0, 12), (1, 0, 0), (2, 6, 6), (3, 12, 0), (4, 6, 6), (5, 0, 0)] {
+    for (node, into, out) in [
+        (0, 0, 12),
+        (1, 0, 0),
+        (2, 6, 6),
+        (3, 12, 0),
+        (4, 6, 6),
+        (5, 0, 0),
+    ] {
         assert!(rt; node < network.nodes());
         assert_eq!(rt; flow_in(&network, &flows, node), into, "into {node}");
         assert_eq!(rt; flow_out(&network, &flows, node), out, "out of {node}");
