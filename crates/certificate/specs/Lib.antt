@@ -1,2 +1,11 @@
 pub mod Spelling
 pub mod Valid
+pub mod Bytes
+pub mod Limits
+pub mod Lines
+pub mod Rows
+pub mod Draft
+pub mod DraftFields
+pub mod Judged
+pub mod Claims
+pub mod Refusals

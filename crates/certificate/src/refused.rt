@@ -1,5 +1,12 @@
 //! Why a text is no valid certificate.
 
+ghost use Rattle.std.specs.Prelude.{◌≡◌};
+ghost use Rattle.certificate.specs.Limits.{greatest};
+
+use definitions::{
+    ARC_LIMIT, COST_LIMIT, K_LIMIT, LABEL_LIMIT, NODE_LIMIT, UNIT_LIMIT, VOLUME_LIMIT, WAIT_LIMIT,
+    WEIGHT_LIMIT,
+};
 use lp_model::NetFault;
 
 /// A limit of a text. docs/FORMATS.md has their values.
@@ -14,6 +21,25 @@ pub enum Limit {
     Label,
     Volume,
     Wait,
+}
+
+impl Limit {
+    /// The greatest value within the limit.
+    pub fn greatest(self) -> u128
+        ensures value { result ≡ greatest self }
+    {
+        match self {
+            Limit::Nodes => NODE_LIMIT as u128,
+            Limit::Arcs => ARC_LIMIT as u128,
+            Limit::K => K_LIMIT as u128,
+            Limit::Cost => COST_LIMIT as u128,
+            Limit::Weight => WEIGHT_LIMIT as u128,
+            Limit::Units => UNIT_LIMIT as u128,
+            Limit::Label => LABEL_LIMIT as u128,
+            Limit::Volume => VOLUME_LIMIT as u128,
+            Limit::Wait => WAIT_LIMIT,
+        }
+    }
 }
 
 /// Why a text is refused: the first faulty line decides, and then the first condition that fails.

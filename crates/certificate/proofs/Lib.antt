@@ -1,0 +1,10 @@
+pub mod Readers
+pub mod Digits
+pub mod Taken
+pub mod Growth
+pub mod Keeping
+pub mod Memory
+pub mod OwnArcs
+pub mod LabelLemmas
+pub mod Faultless
+pub mod Verdicts

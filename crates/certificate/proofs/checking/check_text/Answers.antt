@@ -1,0 +1,12 @@
+use Rattle.certificate.specs.Valid.{HasVerdict}
+use Rattle.certificate.proofs.Verdicts.{verdict_is, lower_bound, gap_is}
+use Rattle.certificate.proofs.checking.check_text.Goals as goal
+
+pub returns-clause-valid : goal.returns-clause-valid
+returns-clause-valid c = verdict_is c.args.bytes.now c.in_ok-claim.claim c.verdict.result c.in_ok-claim.ensures.text c.in_ok-judge.ensures.valid c.verdict.ensures.value
+
+pub returns-clause-no_plan_is_cheaper : goal.returns-clause-no_plan_is_cheaper
+returns-clause-no_plan_is_cheaper c = lower_bound c.args.bytes.now c.verdict.result (returns-clause-valid c)
+
+pub returns-clause-gap : goal.returns-clause-gap
+returns-clause-gap c = gap_is c.args.bytes.now c.verdict.result (returns-clause-valid c)

@@ -1,0 +1,66 @@
+//! How a run ends.
+
+ghost use Rattle.std.specs.Prelude.{◌≡◌};
+ghost use Rattle.desk.specs.Status.{code_of};
+
+use certificate::Refused;
+use desk_io::Name;
+
+/// How a run ended: the exit code of the program, and why.
+#[derive(Drop)]
+pub struct Status {
+    pub code: u8,
+    pub cause: Cause,
+}
+
+/// Why a run ended as it did. docs/FORMATS.md lists the codes and the fault texts.
+#[derive(Drop)]
+pub enum Cause {
+    /// The whole output was written.
+    Done,
+    Usage(UsageFault),
+    /// A limit was passed, other than inside a text that is checked: the limit, and the count that passed it.
+    Range(Limit, u128),
+    /// The folder failed.
+    ReadFault,
+    /// The output failed after so many of its bytes.
+    WriteFault {
+        sent: usize,
+    },
+    NoMemory,
+    /// The text is no valid certificate.
+    Refused(Refused),
+}
+
+/// What is wrong with the words.
+#[derive(Drop)]
+pub enum UsageFault {
+    /// They are no command.
+    Words,
+    /// A file that they name is not there.
+    NoFile(Name),
+}
+
+/// A limit of a run. docs/FORMATS.md has their values.
+#[derive(Clone, Copy, Debug, Drop, PartialEq, Eq)]
+pub enum Limit {
+    File,
+}
+
+impl Status {
+    /// The status of a cause.
+    pub fn of(cause: Cause) -> Status
+        ensures status { result ≡ record { code = code_of cause; cause = cause } }
+    {
+        let code = match &cause {
+            Cause::Done => 0,
+            Cause::Usage(_) => 2,
+            Cause::Range(_, _) => 7,
+            Cause::ReadFault => 8,
+            Cause::WriteFault { .. } => 9,
+            Cause::NoMemory => 11,
+            Cause::Refused(_) => 12,
+        };
+        Status { code, cause }
+    }
+}

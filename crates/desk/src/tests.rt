@@ -1,0 +1,3 @@
+//! Whole runs over objects in memory, one file a command.
+
+mod check;

@@ -1,0 +1,209 @@
+//! Runs of `check`.
+
+use crate::run::run;
+use crate::status::Status;
+use desk_io::{Blob, MemoryFolder, MemorySink, Name};
+use std::alloc::{AllocError, Global};
+use std::test::Fail;
+
+/// The certificate of one line, which runs seven times in the window.
+const ONE_LINE: &str = "assignment-certificate 1
+nodes 2
+arcs 1
+k 1800000000
+destination 1
+a 0 1 60000 7000
+g 1
+g 0
+u 317142
+u 0
+v 1
+q 257143
+q 0
+end
+";
+
+/// What a run answered and wrote.
+#[derive(Drop)]
+struct Ran {
+    status: Status,
+    out: MemorySink,
+    err: MemorySink,
+}
+
+// Runs the words over a folder with one file, whose calls of these numbers fail. `room` is that of the output.
+fn run_words(
+    alloc: Global,
+    words: &[&str],
+    file: (&str, &str),
+    failing: &[u64],
+    room: usize,
+) -> Result<Ran, AllocError> {
+    let mut names = Vec::new(alloc);
+    for word in words {
+        names.push(Name::new(String::from_str(alloc, word)?))?;
+    }
+    let bytes = Blob::new(Vec::from_slice(alloc, file.1.as_bytes())?);
+    let mut folder = folder_of(alloc, file.0, bytes, failing)?;
+    let mut out = MemorySink::new(alloc, room, 7, Vec::new(alloc))?;
+    let mut err = MemorySink::new(alloc, 1000, 1000, Vec::new(alloc))?;
+    let status = run(alloc, names.as_slice(), &mut folder, &mut out, &mut err);
+    Ok(Ran { status, out, err })
+}
+
+// A folder with one file.
+fn folder_of(
+    alloc: Global,
+    path: &str,
+    bytes: Blob,
+    failing: &[u64],
+) -> Result<MemoryFolder, AllocError> {
+    let path = Name::new(String::from_str(alloc, path)?);
+    let mut files = Vec::new(alloc);
+    files.push((path, bytes))?;
+    let failing = Vec::from_slice(alloc, failing)?;
+    Ok(MemoryFolder::new(files, 1000, failing))
+}
+
+#[test]
+fn prints_the_verdict_of_a_valid_certificate(rt: HostRuntime) -> Result<(), Fail> {
+    // h = ceil(1800000000 / 7000) = 257143, cost = 60000 + 257143, slack = 1 + 2 * 257143
+    let one_line = "valid\nunits 1\ncost 317143\nbound 317142\ngap 1\nslack 514287\n";
+    // The arcs are boarded from one stop; h = 450000 where the least weight is 4000, and 300000 where it is 6000.
+    let tables = [
+        (ONE_LINE, one_line),
+        (
+            "assignment-certificate 1\nnodes 2\narcs 2\nk 1800000000\ndestination 1\na 0 1 600000 6000\na 0 1 899999 4000\ng 1\ng 0\nu 899999\nu 0\nv 1\nv 0\nq 300000\nq 0\nend\n",
+            "valid\nunits 1\ncost 900000\nbound 899999\ngap 1\nslack 900001\n",
+        ),
+        (
+            "assignment-certificate 1\nnodes 2\narcs 2\nk 1800000000\ndestination 1\na 0 1 600000 6000\na 0 1 900000 4000\ng 10\ng 0\nu 900000\nu 0\nv 6\nv 4\nq 1800000\nq 0\nend\n",
+            "valid\nunits 10\ncost 9000000\nbound 9000000\ngap 0\nslack 900010\n",
+        ),
+        (
+            "assignment-certificate 1\nnodes 2\narcs 3\nk 1800000000\ndestination 1\na 0 1 600000 6000\na 0 1 600000 6000\na 0 1 600000 6000\ng 2\ng 0\nu 700000\nu 0\nv 1\nv 1\nv 0\nq 300000\nq 0\nend\n",
+            "valid\nunits 2\ncost 1500000\nbound 1400000\ngap 100000\nslack 600002\n",
+        ),
+        (
+            "assignment-certificate 1\nnodes 2\narcs 2\nk 1800000000\ndestination 1\na 0 1 600000 6000\na 0 1 900000 -\ng 5\ng 0\nu 900000\nu 0\nv 0\nv 5\nq 0\nq 0\nend\n",
+            "valid\nunits 5\ncost 4500000\nbound 4500000\ngap 0\nslack 600005\n",
+        ),
+    ];
+    for (text, lines) in tables {
+        let ran = run_words(rt.alloc(), &["check", "c"], ("c", text), &[], 1000)?;
+        assert_eq!(rt; ran.status.code, 0, "{lines}");
+        assert_eq!(rt; ran.out.bytes(), lines.as_bytes(), "{lines}");
+        assert_eq!(rt; ran.err.bytes(), b"".as_slice(), "{lines}");
+    }
+    Ok(())
+}
+
+#[test]
+fn tells_what_is_wrong_with_a_text(rt: HostRuntime) -> Result<(), Fail> {
+    let changes = [
+        ("u 317142\n", "u 0317142\n", "error 12: refused grammar at 95\n"),
+        ("v 1\n", "v 0\n", "error 12: refused not-conserved node 0 due 1 sent 0\n"),
+        (
+            "q 257143\n",
+            "q 257142\n",
+            "error 12: refused wait-short arc 0 left 1800000000 right 1799994000\n",
+        ),
+        (
+            "u 317142\n",
+            "u 317143\n",
+            "error 12: refused dual-broken node 0 arc - left 1800001000 right 1800000000\n",
+        ),
+        ("u 0\n", "u 1\n", "error 12: refused dual-broken node 1 arc - left 1 right 0\n"),
+        ("a 0 1 60000 7000\n", "a 0 1 0 7000\n", "error 12: refused zero-cost arc 0\n"),
+        ("k 1800000000\n", "k 345600000001\n", "error 12: refused range k 345600000001\n"),
+        ("destination 1\n", "destination 2\n", "error 12: refused node-outside arc - node 2\n"),
+    ];
+    for (line, changed, fault) in changes {
+        let text = replaced(rt.alloc(), ONE_LINE, line, changed)?;
+        let ran = run_words(rt.alloc(), &["check", "c"], ("c", text.as_str()), &[], 1000)?;
+        assert_eq!(rt; ran.status.code, 12, "{changed}");
+        assert_eq!(rt; ran.out.bytes(), b"".as_slice(), "{changed}");
+        assert_eq!(rt; ran.err.bytes(), fault.as_bytes(), "{changed}");
+    }
+    // The first 98 bytes, which end inside the first label.
+    let cut = ONE_LINE.get(..98).ok_or("98 bytes")?;
+    let ran = run_words(rt.alloc(), &["check", "c"], ("c", cut), &[], 1000)?;
+    assert_eq!(rt; ran.status.code, 12);
+    assert_eq!(rt; ran.err.bytes(), b"error 12: refused grammar at 98\n".as_slice());
+    Ok(())
+}
+
+// The text with another line in place of one.
+fn replaced(alloc: Global, text: &str, line: &str, changed: &str) -> Result<String, AllocError> {
+    let mut made = String::new(alloc);
+    match text.split_once(line) {
+        Some((before, after)) => {
+            made.push_str(before)?;
+            made.push_str(changed)?;
+            made.push_str(after)?;
+        }
+        None => made.push_str(text)?,
+    }
+    Ok(made)
+}
+
+#[test]
+fn refuses_words_and_missing_files(rt: HostRuntime) -> Result<(), Fail> {
+    let cases: [(&[&str], &str); 5] = [
+        (&[], "error 2: usage words\n"),
+        (&["check"], "error 2: usage words\n"),
+        (&["check", "c", "d"], "error 2: usage words\n"),
+        (&["chek", "c"], "error 2: usage words\n"),
+        (&["check", "other"], "error 2: usage no file other\n"),
+    ];
+    for (words, fault) in cases {
+        let ran = run_words(rt.alloc(), words, ("c", ONE_LINE), &[], 1000)?;
+        assert_eq!(rt; ran.status.code, 2, "{fault}");
+        assert_eq!(rt; ran.out.bytes(), b"".as_slice(), "{fault}");
+        assert_eq!(rt; ran.err.bytes(), fault.as_bytes(), "{fault}");
+    }
+    Ok(())
+}
+
+#[test]
+fn tells_faults_of_the_folder_and_of_the_output(rt: HostRuntime) -> Result<(), Fail> {
+    // Call 0 begins the file, call 1 is the first read.
+    for failing in [0, 1] {
+        let ran = run_words(rt.alloc(), &["check", "c"], ("c", ONE_LINE), &[failing], 1000)?;
+        assert_eq!(rt; ran.status.code, 8, "call {failing}");
+        assert_eq!(rt; ran.out.bytes(), b"".as_slice(), "call {failing}");
+        assert_eq!(rt; ran.err.bytes(), b"error 8: read fault\n".as_slice(), "call {failing}");
+    }
+    let ran = run_words(rt.alloc(), &["check", "c"], ("c", ONE_LINE), &[], 5)?;
+    assert_eq!(rt; ran.status.code, 9);
+    assert_eq!(rt; ran.out.bytes(), b"valid".as_slice());
+    assert_eq!(rt; ran.err.bytes(), b"error 9: write fault 5\n".as_slice());
+    Ok(())
+}
+
+#[test]
+fn refuses_a_file_past_its_limit(rt: HostRuntime) -> Result<(), Fail> {
+    let bytes = vec![in rt.alloc(); b'a'; 268_435_457]?;
+    let mut folder = folder_of(rt.alloc(), "c", Blob::new(bytes), &[])?;
+    let mut out = MemorySink::new(rt.alloc(), 10, 10, Vec::new(rt.alloc()))?;
+    let mut err = MemorySink::new(rt.alloc(), 100, 100, Vec::new(rt.alloc()))?;
+    let mut words = Vec::new(rt.alloc());
+    words.push(Name::new(String::from_str(rt.alloc(), "check")?))?;
+    words.push(Name::new(String::from_str(rt.alloc(), "c")?))?;
+    let status = run(rt.alloc(), words.as_slice(), &mut folder, &mut out, &mut err);
+    assert_eq!(rt; status.code, 7);
+    assert_eq!(rt; out.bytes(), b"".as_slice());
+    assert_eq!(rt; err.bytes(), b"error 7: range file 268435457\n".as_slice());
+    Ok(())
+}
+
+#[test]
+fn shows_a_path_in_printable_characters(rt: HostRuntime) -> Result<(), Fail> {
+    let long = "a/path/with\ta/tab/and/more/than/sixty/bytes/that/goes/on/and/on/to/its/end";
+    let ran = run_words(rt.alloc(), &["check", long], ("c", ONE_LINE), &[], 1000)?;
+    let shown = "error 2: usage no file a/path/with?a/tab/and/more/than/sixty/bytes/that/goes/on/and\n";
+    assert_eq!(rt; ran.err.bytes(), shown.as_bytes());
+    let ran = run_words(rt.alloc(), &["check", ""], ("c", ONE_LINE), &[], 1000)?;
+    assert_eq!(rt; ran.err.bytes(), b"error 2: usage no file -\n".as_slice());
+    Ok(())
+}
