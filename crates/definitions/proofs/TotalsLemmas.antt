@@ -1,5 +1,5 @@
 -- The least weight of a network is a boarding arc's, and the longest wait is enough at each boarding arc.
-use Rattle.std.proofs.Common.{◌≡◌, ℕ, zero, suc, ◌+◌, ◌*◌, ◌/◌, ◌%◌, ◌<◌, ◌≤◌, ◌==◌, Bool, true, false, cond, min, List, [], ◌∷◌, map, length, refl, sym, ◌∙◌, ap, arith, inl, inr}
+use Rattle.std.proofs.Common.{◌≡◌, ℕ, zero, suc, ◌+◌, ◌*◌, ◌/◌, ◌%◌, ◌<◌, ◌≤◌, ◌==◌, Bool, true, false, cond, min, List, [], ◌∷◌, map, length, refl, ◌∙◌, ap, arith, inl, inr}
 use Rattle.std.specs.List.{All, fold, filter, range_with_len}
 use Rattle.std.specs.Int.{div_ceil}
 use Rattle.std.proofs.Math.Nat.{mul-le-mul_left}
@@ -48,6 +48,7 @@ value_at P p f s (suc n) a all low high pass = elim (cases_lt s a) [
     rest : (b : Bool) → All P (map f (cond b (s ∷ filter p (range_with_len (s + 1) n)) (filter p (range_with_len (s + 1) n)))) → All P (map f (filter p (range_with_len (s + 1) n)))
     rest true all = All-tail P (f s) (map f (filter p (range_with_len (s + 1) n))) all
     rest false all = all
+
     first_of : (b : Bool) → b ≡ true → All P (map f (cond b (s ∷ filter p (range_with_len (s + 1) n)) (filter p (range_with_len (s + 1) n)))) → All P (map f (s ∷ filter p (range_with_len (s + 1) n)))
     first_of true e all = all
     first_of false e all = absurd cc
@@ -93,6 +94,7 @@ longest_wait-within net = within net.k (least_weight net)
   where
     rounded : (k least : ℕ) → div_ceil k (suc least) ≤ k
     rounded k least = let parts : suc least * (k / suc least) + k % suc least ≡ k = omega arith in omega arith
+
     within : (k least : ℕ) → cond (least == 0) 0 (div_ceil k least) ≤ k
     within k zero = omega arith
     within k (suc least) = let positive : suc least == 0 ≡ false = ne_eqb (suc least) 0 (λ e. omega arith) in rw positive (rounded k least)

@@ -1,5 +1,5 @@
 -- The first of some faults, and networks with no fault.
-use Rattle.std.proofs.Common.{◌≡◌, ℕ, zero, suc, ◌+◌, ◌-◌, ◌*◌, ◌<◌, ◌≤◌, ◌==◌, Bool, true, false, List, [], ◌∷◌, ◌++◌, length, Option, None, Some, refl, sym, ◌∙◌, ap, arith, inl, inr}
+use Rattle.std.proofs.Common.{◌≡◌, ℕ, zero, suc, ◌+◌, ◌-◌, ◌<◌, ◌≤◌, ◌==◌, Bool, true, false, List, [], ◌∷◌, ◌++◌, length, Option, None, Some, refl, ◌∙◌, ap, arith}
 use Rattle.std.specs.Bool.{nat_le, nat_lt}
 use Rattle.std.specs.Option.{is_some, unwrap_or}
 use Rattle.std.specs.List.{flat_map, range_with_len, slice_get}
@@ -7,7 +7,7 @@ use Rattle.std.proofs.lemmas.Bool.{leb-false, ltb-false, eqb-false}
 use Rattle.std.proofs.lemmas.List.Concat.{flat_map-append}
 use Rattle.definitions.specs.declared.arc.NetArc.{NetArc}
 use Rattle.definitions.specs.declared.limits.TheConstants.{NODE_LIMIT, ARC_LIMIT, K_LIMIT, COST_LIMIT, WEIGHT_LIMIT}
-use Rattle.definitions.specs.Network.{NetworkData, IsNetwork, IsWellFormed, IsWithinLimits, IsGrouped, arc_at, tail_of, arc_numbers}
+use Rattle.definitions.specs.Network.{NetworkData, IsNetwork, arc_at, tail_of}
 use Rattle.definitions.proofs.Sums.{range_more}
 use Rattle.definitions.proofs.Spans.{range_split}
 use Rattle.lp_model.specs.declared.fault.NetFault.{NetFault}

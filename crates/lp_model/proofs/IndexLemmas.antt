@@ -3,11 +3,11 @@ use Rattle.std.proofs.Common.{◌≡◌, ℕ, ◌+◌, ◌-◌, ◌<◌, ◌≤�
 use Rattle.std.specs.List.{All, range_with_len}
 use Rattle.std.proofs.lemmas.List.{length-map}
 use Rattle.std.proofs.lemmas.List.Elements.{All-weaker}
-use Rattle.definitions.specs.declared.arc.NetArc.{NetArc}
 use Rattle.definitions.specs.Network.{NetworkData, IsNetwork, no_arc, arc_at, tail_of, head_of, out_arcs, in_arcs}
 use Rattle.definitions.proofs.Spans.{map-span, filter_keeps}
 use Rattle.definitions.proofs.Grouped.{lesser, lesser_next, those_within, those_span}
-use Rattle.lp_model.specs.Indexed.{IsIndexed, first_arc}
+use Rattle.lp_model.specs.Indexed.{IsIndexed}
+use Rattle.lp_model.specs.Parts.{first_arc}
 
 -- the first places of a node and of the next, by tail
 pub out_first : (net : NetworkData) (firsts into_arcs into_firsts : List ℕ) (n : ℕ) → IsIndexed net firsts into_arcs into_firsts → n < net.nodes → get_or firsts n 0 ≡ first_arc net n

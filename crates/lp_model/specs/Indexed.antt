@@ -1,19 +1,10 @@
--- A network's arcs, and what stands beside them to find those of a node at once.
-use Rattle.std.specs.Prelude.{◌≡◌, ℕ, ◌+◌, nat_lt, List, length, count_by}
-use Rattle.definitions.specs.declared.arc.NetArc.{NetArc}
-use Rattle.definitions.specs.Network.{NetworkData, IsNetwork, tail_of, arc_numbers}
+-- What a network keeps beside its arcs, to find those of a node at once.
+use Rattle.std.specs.Prelude.{◌≡◌, ℕ, ◌+◌, List, length}
+use Rattle.definitions.specs.Network.{NetworkData, IsNetwork}
 use Rattle.lp_model.specs.declared.grouping.End.TheVariants.{Tail, Head}
 use Rattle.lp_model.specs.Grouping.{AreFirsts, AreGrouped}
 
--- the network of so many nodes, these arcs and this wait constant
-abbrev pub network_of : ℕ → List NetArc → ℕ → NetworkData
-network_of nodes arcs k = record { nodes = nodes; arcs = arcs; k = k }
-
--- how many arcs have a tail below a node: the number of the node's first arc, where it has one
-abbrev pub first_arc : NetworkData → ℕ → ℕ
-first_arc net node = count_by (λ arc. nat_lt (tail_of net arc) node) (arc_numbers net)
-
--- the number of each node's first arc by tail and by head, and the arcs grouped by head
+-- the first places of each node by tail and by head, and the arcs grouped by head
 pub record IsIndexed (net : NetworkData) (firsts into_arcs into_firsts : List ℕ) : Type 0 where
   pub rules : IsNetwork net
   pub first_each : length firsts ≡ net.nodes + 1

@@ -1,4 +1,5 @@
 pub mod Faults
 pub mod Grouping
 pub mod Indexed
+pub mod Parts
 pub mod Wide

@@ -3,7 +3,7 @@
 ghost use Rattle.std.specs.Prelude.{◌≡◌, ◌≤◌, [], length, slice_get, MatchResult, Some};
 ghost use Rattle.definitions.specs.declared.limits.TheConstants.{ARC_LIMIT};
 ghost use Rattle.lp_model.specs.Faults.{size_faults, arcs_faults};
-ghost use Rattle.lp_model.specs.Indexed.{network_of};
+ghost use Rattle.lp_model.specs.Parts.{network_of};
 
 use crate::fault::{Limit, NetFault};
 use crate::wide_arc::WideArc;

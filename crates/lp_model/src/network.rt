@@ -7,7 +7,7 @@ ghost use Rattle.definitions.specs.Network.{IsNetwork, arc_at, is_boarding, weig
 ghost use Rattle.definitions.specs.Totals.{boarding_stops, least_weight, longest_wait};
 ghost use Rattle.lp_model.specs.declared.fault.NetFault.TheVariants.{NoMemory};
 ghost use Rattle.lp_model.specs.Faults.{network_faults, first_fault};
-ghost use Rattle.lp_model.specs.Indexed.{network_of, first_arc};
+ghost use Rattle.lp_model.specs.Parts.{network_of, first_arc};
 
 use crate::boarding::{has_boarding, least_weight_of};
 use crate::fault::NetFault;
@@ -33,7 +33,8 @@ pub struct Network {
 
 impl Model for Network {
     ghost use Rattle.definitions.specs.Network.{NetworkData};
-    ghost use Rattle.lp_model.specs.Indexed.{network_of, IsIndexed};
+    ghost use Rattle.lp_model.specs.Indexed.{IsIndexed};
+    ghost use Rattle.lp_model.specs.Parts.{network_of};
 
     ghost Value = { NetworkData };
 
@@ -52,7 +53,7 @@ impl Network {
     /// - `Range` of the number of nodes, of the number of arcs, of `k`.
     /// - Then for each arc in turn: `NodeOutside` of its tail, of its head, `ZeroCost`, `Range` of
     ///   its cost, `ZeroWeight`, `NotGrouped`.
-    /// - `NoMemory` where no other applies.
+    /// - `NoMemory` may come in place of any of these.
     pub fn new(nodes: u32, arcs: Vec<NetArc>, k: u64) -> Result<Network, NetFault>
         ensures network { IfOk result (λ network. network ≡ network_of nodes arcs.items k) }
         ensures accepted { OnOk result (IsNetwork (network_of nodes arcs.items k)) }
@@ -192,3 +193,6 @@ fn index(nodes: u32, arcs: Vec<NetArc>, k: u64) -> Result<Network, AllocError>
         into_firsts,
     })
 }
+
+#[cfg(test)]
+pub(crate) mod tests;

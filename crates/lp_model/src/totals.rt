@@ -140,3 +140,6 @@ fn sum_at(flows: &[u64], arcs: &[u32]) -> u128
     }
     total
 }
+
+#[cfg(test)]
+mod tests;

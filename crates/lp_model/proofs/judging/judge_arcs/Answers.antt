@@ -1,7 +1,7 @@
 use Rattle.std.proofs.Common.{◌≡◌, ◌+◌, suc, arith, ap, sym}
 use Rattle.std.proofs.lemmas.Result.{err_from_is_err_and}
 use Rattle.lp_model.specs.Faults.{tail_before}
-use Rattle.lp_model.specs.Indexed.{network_of}
+use Rattle.lp_model.specs.Parts.{network_of}
 use Rattle.lp_model.specs.Wide.{arc_of_wide}
 use Rattle.lp_model.proofs.FaultLemmas.{arc_found, arc_passed}
 use Rattle.lp_model.proofs.judging.judge_arcs.Goals as goal

@@ -1,7 +1,7 @@
 use Rattle.std.proofs.Common.{◌≡◌, []}
 use Rattle.std.specs.List.{flat_map, range_with_len}
 use Rattle.lp_model.specs.Faults.{tail_before}
-use Rattle.lp_model.specs.Indexed.{network_of}
+use Rattle.lp_model.specs.Parts.{network_of}
 use Rattle.lp_model.proofs.FaultLemmas.{faults_at}
 use Rattle.lp_model.proofs.judging.judge_arcs.Given as goal
 

@@ -4,7 +4,7 @@ use Rattle.definitions.proofs.Spans.{sum_by-span}
 use Rattle.lp_model.proofs.totals.flow_out.Goals as goal
 
 pub returns-clause-value : goal.returns-clause-value
-returns-clause-value c = 
+returns-clause-value c =
     let count : c.first-first.result + length c.out.result.now - c.first-first.result ≡ length c.out.result.now = omega arith in
     let within : c.first-first.result + length c.out.result.now ≤ length c.args.v.now = omega arith in
     c.sum_of.ensures.value

@@ -24,6 +24,7 @@ loop-node-preserved c =
     as_number : (b : Bool) → bool_byte b ≡ cond b 1 0
     as_number true = refl
     as_number false = refl
+
     at_most_one : (b : Bool) → cond b 1 0 ≤ 1
     at_most_one true = omega arith
     at_most_one false = omega arith

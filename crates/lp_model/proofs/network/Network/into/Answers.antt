@@ -1,4 +1,4 @@
-use Rattle.std.proofs.Common.{◌≡◌, arith, length}
+use Rattle.std.proofs.Common.{arith, length}
 use Rattle.definitions.specs.Network.{head_of}
 use Rattle.definitions.proofs.Grouped.{those_within}
 use Rattle.lp_model.proofs.IndexLemmas.{into_next, into_within, into_part, in_arcs_there}

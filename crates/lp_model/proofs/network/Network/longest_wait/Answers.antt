@@ -6,7 +6,7 @@ use Rattle.definitions.proofs.TotalsLemmas.{longest_wait-enough}
 use Rattle.lp_model.proofs.network.Network.longest_wait.Goals as goal
 
 pub returns-in-0-clause-enough : goal.returns-in-0-clause-enough
-returns-in-0-clause-enough c = 
+returns-in-0-clause-enough c =
     let value : 0 ≡ longest_wait c.args.self.now = grind (arith, common_steps) in
     λ arc lt boards.
     let P : ℕ → Type 0 = λ wait. c.args.self.now.k ≤ wait * weight_of c.args.self.now arc in

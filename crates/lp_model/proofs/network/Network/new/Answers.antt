@@ -1,6 +1,6 @@
-use Rattle.std.proofs.Common.{◌≡◌, [], ◌++◌, refl}
-use Rattle.lp_model.specs.Faults.{size_faults, arcs_faults, network_faults}
-use Rattle.lp_model.specs.Indexed.{network_of}
+use Rattle.std.proofs.Common.{◌≡◌, [], refl}
+use Rattle.lp_model.specs.Faults.{size_faults, arcs_faults}
+use Rattle.lp_model.specs.Parts.{network_of}
 use Rattle.lp_model.proofs.FaultLemmas.{faultless}
 use Rattle.lp_model.proofs.network.Network.new.Goals as goal
 

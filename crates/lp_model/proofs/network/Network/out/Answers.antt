@@ -1,9 +1,9 @@
-use Rattle.std.proofs.Common.{◌≡◌, arith, ◌∙◌, ap, sym, length, map}
+use Rattle.std.proofs.Common.{◌≡◌, arith, ◌∙◌, ap, sym, length}
 use Rattle.std.specs.List.{range_with_len}
 use Rattle.definitions.specs.Network.{arc_at, tail_of, out_arcs}
 use Rattle.definitions.proofs.Grouped.{those_within}
 use Rattle.std.proofs.lemmas.List.{length-map}
-use Rattle.lp_model.specs.Indexed.{first_arc}
+use Rattle.lp_model.specs.Parts.{first_arc}
 use Rattle.lp_model.proofs.IndexLemmas.{out_next, out_within, out_part, out_numbers}
 use Rattle.lp_model.proofs.network.Network.out.Goals as goal
 
@@ -29,7 +29,7 @@ returns-clause-arcs c =
     (out_part c.args.self.now c.self.inside.firsts.items c.self.inside.into_arcs.items c.self.inside.into_firsts.items c.args.n indexed c.requires)
 
 pub returns-clause-numbers : goal.returns-clause-numbers
-returns-clause-numbers c = 
+returns-clause-numbers c =
     let indexed = rw c.self.view_is at c.self.invariant in
     out_numbers c.args.self.now c.args.n indexed.rules
     ∙ ap (λ arcs. range_with_len (first_arc c.args.self.now c.args.n) (length arcs)) (sym (returns-clause-arcs c))
