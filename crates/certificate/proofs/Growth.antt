@@ -8,7 +8,8 @@ use Rattle.definitions.specs.Decimal.{numeral, number_line}
 use Rattle.certificate.specs.declared.stage.Stage.{Stage}
 use Rattle.certificate.specs.declared.stage.Stage.TheVariants as stage
 use Rattle.certificate.specs.Spelling.{title, last_line, weight_text, arc_line}
-use Rattle.certificate.specs.Draft.{DraftData, text_before, text_so_far, up_to_nodes, up_to_arcs, up_to_k, up_to_rows, HasNoRows, HasRows, IsAtStage, Took}
+use Rattle.certificate.specs.Draft.{DraftData, text_before, up_to_k, Took}
+use Rattle.certificate.specs.Kept.{HasNoRows, HasRows, IsAtStage}
 
 -- what stands at the rows
 pub rows_of : (d : DraftData) → d.stage ≡ stage.Rows → IsAtStage d.stage d → HasRows d
@@ -60,7 +61,7 @@ k_took d n bytes rest s e = line_took d (record d { stage = stage.Destination; k
 -- before the first row the rows are nothing
 without_rows : (front : List ℕ) (arcs : List NetArc) (demand labels volumes waits : List ℕ) → arcs ≡ [] → demand ≡ [] → labels ≡ [] → volumes ≡ [] → waits ≡ [] →
     front ++ flat_map arc_line arcs ++ flat_map (number_line (codes "g")) demand ++ flat_map (number_line (codes "u")) labels
-        ++ flat_map (number_line (codes "v")) volumes ++ flat_map (number_line (codes "q")) waits ≡ front
+    ++ flat_map (number_line (codes "v")) volumes ++ flat_map (number_line (codes "q")) waits ≡ front
 without_rows front arcs demand labels volumes waits a g u v q = rw (a, g, u, v, q) (simp append-nil)
 
 pub destination_took : (d : DraftData) (n : ℕ) (bytes rest : List ℕ) → d.stage ≡ stage.Destination → HasNoRows d → bytes ≡ number_line (codes "destination") n ++ rest →
@@ -79,7 +80,7 @@ end_took d bytes rest s e = line_took d (record d { stage = stage.Done }) stage.
 abbrev rows_after : List ℕ → List NetArc → List ℕ → List ℕ → List ℕ → List ℕ → List ℕ
 rows_after front arcs demand labels volumes waits =
     front ++ flat_map arc_line arcs ++ flat_map (number_line (codes "g")) demand ++ flat_map (number_line (codes "u")) labels
-        ++ flat_map (number_line (codes "v")) volumes ++ flat_map (number_line (codes "q")) waits
+    ++ flat_map (number_line (codes "v")) volumes ++ flat_map (number_line (codes "q")) waits
 
 abbrev header : DraftData → List ℕ
 header d = up_to_k d ++ number_line (codes "destination") d.destination

@@ -1,13 +1,13 @@
 -- One more arc keeps the rules of networks.
-use Rattle.std.proofs.Common.{◌≡◌, ℕ, zero, suc, ◌+◌, ◌-◌, ◌<◌, ◌≤◌, List, [], ◌∷◌, ◌++◌, length, Option, None, Some, get_or, refl, sym, ap, subst, ◌∙◌, arith, inl, inr}
+use Rattle.std.proofs.Common.{◌≡◌, ℕ, zero, suc, ◌+◌, ◌<◌, ◌≤◌, List, [], ◌∷◌, ◌++◌, length, refl, sym, ap, subst, arith, inl, inr}
 use Rattle.std.proofs.lemmas.List.{get_or_append_left, get_or_push, length_push}
 use Rattle.std.proofs.lemmas.Bool.{cases_lt}
 use Rattle.definitions.specs.declared.arc.NetArc.{NetArc}
-use Rattle.definitions.specs.Network.{NetworkData, arc_at, no_arc}
+use Rattle.definitions.specs.Network.{NetworkData, no_arc}
 use Rattle.lp_model.specs.Faults.{arc_faults, tail_before}
-use Rattle.certificate.specs.declared.stage.Stage.{Stage}
 use Rattle.certificate.specs.declared.stage.Stage.TheVariants as stage
-use Rattle.certificate.specs.Draft.{DraftData, network_so_far, HasGoodArcs, HasRows, IsAtStage}
+use Rattle.certificate.specs.Draft.{DraftData, network_so_far}
+use Rattle.certificate.specs.Kept.{HasGoodArcs, HasRows, IsAtStage}
 
 -- a network of these arcs
 abbrev net_of : ℕ → ℕ → List NetArc → NetworkData

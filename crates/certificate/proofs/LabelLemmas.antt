@@ -1,12 +1,12 @@
 -- A node's label, judged by its arcs.
-use Rattle.std.proofs.Common.{◌≡◌, ◌≢◌, ℕ, ◌<◌, ◌≤◌, ◌⊎◌, length, Option, None, Some, sym, ap, subst, ◌∙◌, arith, inl, inr}
+use Rattle.std.proofs.Common.{◌≡◌, ◌≢◌, ℕ, ◌<◌, ◌≤◌, length, Option, None, Some, sym, ap, subst, ◌∙◌, arith, inl, inr}
 use Rattle.std.specs.Prelude.{IsFalse, MatchOption, slice_index}
 use Rattle.definitions.specs.Network.{is_boarding, tail_of}
 use Rattle.definitions.specs.Dual.{time_through}
 use Rattle.certificate.specs.declared.refused.Refused.{Refused}
 use Rattle.certificate.specs.declared.refused.Refused.TheVariants as refused
 use Rattle.certificate.specs.Spelling.{Certificate, network_of}
-use Rattle.certificate.specs.Judged.{IsFreeArcKept, AreFreeArcsKept, savings_at, IsLabelKept, IsNotZero, IsFreeArcBroken, AreSavingsAbove, IsLabelBroken}
+use Rattle.certificate.specs.Judged.{IsFreeArcKept, AreFreeArcsKept, savings_at, IsLabelKept, IsNotZero, IsFreeArcBroken, IsLabelBroken}
 use Rattle.certificate.proofs.OwnArcs.{AreOwn, own_are, own_only}
 
 -- a label is no higher than what the free arc leads to

@@ -12,13 +12,12 @@ use Rattle.certificate.specs.declared.refused.Limit.{Limit}
 use Rattle.certificate.specs.declared.refused.Limit.TheVariants as limit
 use Rattle.certificate.specs.declared.fault.Fault.{Fault}
 use Rattle.certificate.specs.declared.fault.Fault.TheVariants as fault
-use Rattle.certificate.specs.declared.stage.Stage.{Stage}
-use Rattle.certificate.specs.declared.stage.Stage.TheVariants as stage
 use Rattle.certificate.specs.Bytes.{◌>>=◌, Gives, is_digit, digits_on, digits_at, byte_at, literal_at, number_at}
 use Rattle.certificate.specs.Limits.{greatest}
 use Rattle.certificate.specs.Lines.{word_at, number_line_at, destination_line_at, demand_line_at, weight_at, wide_arc_at, unless, arc_line_at}
-use Rattle.certificate.specs.Spelling.{title, last_line}
-use Rattle.certificate.specs.Draft.{DraftData, network_so_far, rest_of, row_at, line_of}
+use Rattle.certificate.specs.Spelling.{last_line}
+use Rattle.certificate.specs.Draft.{DraftData, network_so_far}
+use Rattle.certificate.specs.NextLine.{rest_of, row_at}
 
 -- a reading that wants no memory
 abbrev Never : {A : Type 0} → Result A Fault → Type 0

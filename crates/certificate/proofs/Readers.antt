@@ -1,5 +1,5 @@
 -- A reading that did not stop: what each of its steps gave.
-use Rattle.std.proofs.Common.{◌≡◌, ℕ, Bool, true, false, cond, Result, Ok, Err, Option, None, Some, refl, ◌⊎◌, inl, inr}
+use Rattle.std.proofs.Common.{◌≡◌, Bool, true, false, cond, Result, Ok, Err, Option, None, Some, refl, ◌⊎◌, inl, inr}
 use Rattle.lp_model.specs.declared.fault.NetFault.{NetFault}
 use Rattle.certificate.specs.declared.fault.Fault.{Fault}
 use Rattle.certificate.specs.Bytes.{◌>>=◌}

@@ -1,5 +1,5 @@
 -- What a reader takes from the front of bytes is the text of what it gives.
-use Rattle.std.proofs.Common.{◌≡◌, ℕ, ◌+◌, ◌<◌, ◌≤◌, Bool, true, false, cond, List, [], ◌∷◌, ◌++◌, length, Option, None, Some, Result, Ok, Err, refl, sym, ap, subst, ◌∙◌, append_assoc, arith, inl, inr}
+use Rattle.std.proofs.Common.{◌≡◌, ℕ, ◌+◌, Bool, true, false, cond, List, [], ◌∷◌, ◌++◌, length, Option, None, Some, Ok, Err, refl, sym, ap, subst, ◌∙◌, append_assoc, arith, inl, inr}
 use Rattle.std.specs.Bool.{nat_le, nat_lt, ◌==◌}
 use Rattle.std.specs.Prelude.{codes, slice_get}
 use Rattle.std.specs.Fmt.{decimal}
@@ -14,7 +14,6 @@ use Rattle.lp_model.specs.Faults.{arc_faults}
 use Rattle.lp_model.specs.Wide.{arc_of_wide}
 use Rattle.certificate.specs.declared.refused.Limit.{Limit}
 use Rattle.certificate.specs.declared.refused.Limit.TheVariants as limit
-use Rattle.certificate.specs.declared.fault.Fault.{Fault}
 use Rattle.certificate.specs.declared.fault.Fault.TheVariants as fault
 use Rattle.certificate.specs.Bytes.{◌>>=◌, digits_at, byte_at, literal_at, number_at}
 use Rattle.certificate.specs.Limits.{greatest}

@@ -1,10 +1,8 @@
 -- A certificate that is read and judged is valid, and no plan is cheaper than its bound.
-use Rattle.std.proofs.Common.{◌≡◌, ℕ, ◌*◌, ◌≤◌, List, [], ◌++◌, length, Result, Ok, Err, IfOk, refl, ap, sym, ◌∙◌, arith}
+use Rattle.std.proofs.Common.{◌≡◌, ℕ, ◌*◌, ◌≤◌, List, ◌++◌, length, Result, Ok, Err, IfOk, refl, ap, sym, ◌∙◌, arith}
 use Rattle.std.proofs.lemmas.List.{append-nil, nil_from_length}
 use Rattle.definitions.specs.Network.{tail_of}
 use Rattle.definitions.specs.Plan.{cost_of_plan}
-use Rattle.definitions.specs.Dual.{bound_of_labels}
-use Rattle.definitions.specs.Duality.{NoPlanIsCheaper}
 use Rattle.definitions.proofs.DualityLemmas.{duality}
 use Rattle.certificate.specs.declared.checking.Verdict.{Verdict}
 use Rattle.certificate.specs.Spelling.{Certificate, network_of, spelling}

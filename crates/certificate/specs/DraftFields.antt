@@ -3,7 +3,8 @@ use Rattle.certificate.specs.declared.stage.Stage.{Stage}
 use Rattle.certificate.specs.declared.stage.Stage.TheVariants as stage
 use Rattle.certificate.specs.declared.draft.Draft.TheInside.{Inside}
 use Rattle.certificate.specs.Rows.{HasRoomFor}
-use Rattle.certificate.specs.Draft.{DraftData, HasSizes, IsAtStage}
+use Rattle.certificate.specs.Draft.{DraftData}
+use Rattle.certificate.specs.Kept.{HasSizes, IsAtStage}
 
 -- what the fields say
 abbrev pub draft_of : Inside → DraftData

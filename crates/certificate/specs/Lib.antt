@@ -5,6 +5,8 @@ pub mod Limits
 pub mod Lines
 pub mod Rows
 pub mod Draft
+pub mod NextLine
+pub mod Kept
 pub mod DraftFields
 pub mod Judged
 pub mod Claims

@@ -1,6 +1,6 @@
 -- Reading one line from the front of bytes: its shape first, then its numbers in the order of the line.
 -- Here: docs/FORMATS.md.
-use Rattle.std.specs.Prelude.{◌≡◌, ℕ, ◌+◌, ◌==◌, nat_lt, nat_le, Bool, List, [], ◌∷◌, ◌++◌, length, if◌then◌else◌, Result, Ok, Err, Option, None, Some, codes, slice_get}
+use Rattle.std.specs.Prelude.{ℕ, ◌+◌, ◌==◌, nat_lt, nat_le, Bool, List, [], ◌∷◌, ◌++◌, if◌then◌else◌, Result, Ok, Err, Option, None, Some, codes, slice_get}
 use Rattle.definitions.specs.declared.arc.NetArc.{NetArc}
 use Rattle.definitions.specs.declared.limits.TheConstants.{UNIT_LIMIT}
 use Rattle.definitions.specs.Decimal.{line_end}
@@ -38,8 +38,8 @@ destination_line_at nodes bytes =
 abbrev pub demand_line_at : Bool → ℕ → List ℕ → Result (ℕ × List ℕ) Fault
 demand_line_at is_destination units bytes =
     if is_destination
-        then (literal_at (codes "g 0" ++ line_end) bytes >>= λ rest. Ok (0, rest))
-        else (word_at (codes "g") bytes >>= λ n. if nat_le (units + n.0) UNIT_LIMIT then Ok n else Err (fault.Range limit.Units (units + n.0)))
+    then (literal_at (codes "g 0" ++ line_end) bytes >>= λ rest. Ok (0, rest))
+    else (word_at (codes "g") bytes >>= λ n. if nat_le (units + n.0) UNIT_LIMIT then Ok n else Err (fault.Range limit.Units (units + n.0)))
 
 -- the weight of an arc and the end of its line
 unfoldable pub weight_at : List ℕ → Result (Option ℕ × List ℕ) Fault

@@ -7,7 +7,9 @@ use Rattle.certificate.specs.declared.refused.Refused.TheVariants as refused
 use Rattle.certificate.specs.declared.stage.Stage.TheVariants as stage
 use Rattle.certificate.specs.Spelling.{Certificate, spelling}
 use Rattle.certificate.specs.Valid.{HasGoodLines}
-use Rattle.certificate.specs.Draft.{DraftData, IsKept, text_so_far, line_at}
+use Rattle.certificate.specs.Draft.{DraftData, text_so_far}
+use Rattle.certificate.specs.NextLine.{line_at}
+use Rattle.certificate.specs.Kept.{IsKept}
 use Rattle.certificate.specs.Judged.{IsFirstFailure}
 
 -- the refusal of a line's fault in a text of a length: a wrong byte by its place from the front

@@ -7,6 +7,7 @@ use crate::fault::Fault;
 
 // The greatest numbers below which one more digit is read: in 64 bits, and at all.
 const NARROW: u64 = 1_000_000_000_000_000_000;
+
 const WIDE: u128 = 1_000_000_000_000_000_000_000_000_000;
 
 // The digits that go on with a number while it fits 64 bits: most numbers end here.

@@ -88,3 +88,6 @@ fn judge(claim: &Claim) -> Result<(), Refused>
     claim.judge_waits()?;
     claim.judge_labels()
 }
+
+#[cfg(test)]
+mod tests;

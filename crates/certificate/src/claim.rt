@@ -93,3 +93,6 @@ fn destinations_of(units: u64) -> u32
 {
     if units == 0 { 0 } else { 1 }
 }
+
+#[cfg(test)]
+mod tests;

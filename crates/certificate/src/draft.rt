@@ -2,7 +2,9 @@
 
 ghost use Rattle.std.specs.Prelude.{◌≡◌, ◌≢◌, ◌↔◌, IsTrue, IfOk, OnErr};
 ghost use Rattle.certificate.specs.Bytes.{Gives};
-ghost use Rattle.certificate.specs.Draft.{IsKept, Took, line_at};
+ghost use Rattle.certificate.specs.Draft.{Took};
+ghost use Rattle.certificate.specs.NextLine.{line_at};
+ghost use Rattle.certificate.specs.Kept.{IsKept};
 
 mod header_lines;
 mod row_lines;

@@ -60,11 +60,7 @@ pub fn destination_line_of(nodes: u32, bytes: &[u8]) -> Result<(u32, &[u8]), Fau
 }
 
 /// The line of a node's demand. The nodes before it have `units`, and the destination has none.
-pub fn demand_line_of(
-    is_destination: bool,
-    units: u64,
-    bytes: &[u8],
-) -> Result<(u64, &[u8]), Fault>
+pub fn demand_line_of(is_destination: bool, units: u64, bytes: &[u8]) -> Result<(u64, &[u8]), Fault>
     requires within { units ≤ UNITS }
     ensures read { Gives (λ x. (x.0, x.1.now)) result (demand_line_at is_destination units bytes.now) }
     ensures within { IfOk result (λ x. units + x.0 ≤ UNITS) }

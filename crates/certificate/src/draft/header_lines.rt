@@ -4,7 +4,8 @@ ghost use Rattle.std.specs.Prelude.{◌≡◌, ◌≢◌, IfOk, OnErr, codes};
 ghost use Rattle.certificate.specs.Bytes.{Gives, literal_at};
 ghost use Rattle.certificate.specs.Lines.{number_line_at, destination_line_at};
 ghost use Rattle.certificate.specs.Spelling.{title};
-ghost use Rattle.certificate.specs.Draft.{Took, rest_of};
+ghost use Rattle.certificate.specs.Draft.{Took};
+ghost use Rattle.certificate.specs.NextLine.{rest_of};
 
 use crate::bytes::literal_of;
 use crate::draft::Draft;

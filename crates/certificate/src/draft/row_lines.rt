@@ -5,7 +5,8 @@ ghost use Rattle.lp_model.specs.Faults.{tail_before};
 ghost use Rattle.certificate.specs.Bytes.{Gives, literal_at};
 ghost use Rattle.certificate.specs.Lines.{number_line_at, demand_line_at, arc_line_at};
 ghost use Rattle.certificate.specs.Spelling.{last_line};
-ghost use Rattle.certificate.specs.Draft.{Took, network_so_far, rest_of, row_at};
+ghost use Rattle.certificate.specs.Draft.{Took, network_so_far};
+ghost use Rattle.certificate.specs.NextLine.{rest_of, row_at};
 
 use crate::bytes::literal_of;
 use crate::draft::Draft;

@@ -1,4 +1,3 @@
-use Rattle.certificate.specs.Valid.{HasVerdict}
 use Rattle.certificate.proofs.Verdicts.{verdict_is, lower_bound, gap_is}
 use Rattle.certificate.proofs.checking.check_text.Goals as goal
 

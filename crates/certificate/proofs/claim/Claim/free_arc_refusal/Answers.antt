@@ -1,6 +1,4 @@
-use Rattle.std.proofs.Common.{ℕ, ◌<◌, ◌≤◌, arith}
-use Rattle.certificate.proofs.OwnArcs.{AreOwn}
-use Rattle.certificate.specs.Spelling.{network_of}
+use Rattle.std.proofs.Common.{arith}
 use Rattle.certificate.proofs.LabelLemmas.{free_kept, free_broken}
 use Rattle.certificate.proofs.claim.Claim.free_arc_refusal.Goals as goal
 

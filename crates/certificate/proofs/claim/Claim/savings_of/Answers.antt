@@ -1,4 +1,4 @@
-use Rattle.std.proofs.Common.{◌≡◌, ℕ, ◌+◌, ◌-◌, ◌*◌, ◌≤◌, ap, ◌∙◌, arith, sym}
+use Rattle.std.proofs.Common.{◌≡◌, ℕ, ◌+◌, ◌-◌, ◌*◌, ap, ◌∙◌, arith, sym}
 use Rattle.std.specs.List.{sum_by, range_with_len}
 use Rattle.definitions.specs.Network.{weight_of, boarding_arcs}
 use Rattle.definitions.specs.Dual.{saving, weighted_savings}

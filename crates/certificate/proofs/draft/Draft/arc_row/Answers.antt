@@ -1,10 +1,10 @@
-use Rattle.std.proofs.Common.{◌≡◌, ◌+◌, ◌<◌, ◌≤◌, List, [], ◌∷◌, ◌++◌, length, Ok, ap, ◌∙◌, subst, sym}
+use Rattle.std.proofs.Common.{◌≡◌, ◌<◌, [], length, ap, ◌∙◌, subst, sym}
 use Rattle.lp_model.specs.Faults.{arc_faults, tail_before}
 use Rattle.certificate.specs.declared.stage.Stage.TheVariants as stage
 use Rattle.certificate.specs.DraftFields.{draft_of, HasRoomAt}
 use Rattle.certificate.specs.Rows.{HasRoomFor}
-use Rattle.certificate.specs.Lines.{arc_line_at}
-use Rattle.certificate.specs.Draft.{DraftData, HasRows, network_so_far}
+use Rattle.certificate.specs.Draft.{DraftData, network_so_far}
+use Rattle.certificate.specs.Kept.{HasRows}
 use Rattle.certificate.proofs.Taken.{arc_line_taken}
 use Rattle.certificate.proofs.Growth.{rows_of, arc_took}
 use Rattle.certificate.proofs.Keeping.{arc_keeps}

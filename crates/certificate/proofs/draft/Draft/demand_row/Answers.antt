@@ -3,7 +3,8 @@ use Rattle.std.specs.Prelude.{◌==◌}
 use Rattle.certificate.specs.Lines.{demand_line_at}
 use Rattle.certificate.specs.declared.stage.Stage.TheVariants as stage
 use Rattle.certificate.specs.DraftFields.{draft_of}
-use Rattle.certificate.specs.Draft.{DraftData, HasRows}
+use Rattle.certificate.specs.Draft.{DraftData}
+use Rattle.certificate.specs.Kept.{HasRows}
 use Rattle.certificate.proofs.Taken.{demand_line_taken}
 use Rattle.certificate.proofs.Growth.{rows_of, demand_took}
 use Rattle.certificate.proofs.draft.Draft.demand_row.Goals as goal

@@ -1,7 +1,8 @@
 use Rattle.std.proofs.Common.{◌≡◌, ◌<◌, length, ap, ◌∙◌, subst, sym}
 use Rattle.certificate.specs.declared.stage.Stage.TheVariants as stage
 use Rattle.certificate.specs.DraftFields.{draft_of}
-use Rattle.certificate.specs.Draft.{DraftData, HasRows}
+use Rattle.certificate.specs.Draft.{DraftData}
+use Rattle.certificate.specs.Kept.{HasRows}
 use Rattle.std.specs.Prelude.{codes}
 use Rattle.certificate.specs.declared.refused.Limit.TheVariants as limit
 use Rattle.certificate.proofs.Taken.{number_line_taken}
