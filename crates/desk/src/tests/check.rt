@@ -4,6 +4,7 @@ use crate::run::run;
 use crate::status::Status;
 use desk_io::{Blob, MemoryFolder, MemorySink, Name};
 use std::alloc::{AllocError, Global};
+use std::process::Abort;
 use std::test::Fail;
 
 /// The certificate of one line, which runs seven times in the window.
@@ -33,18 +34,19 @@ struct Ran {
 
 // Runs the words over a folder with one file, whose calls of these numbers fail. `room` is that of the output.
 fn run_words(
-    alloc: Global,
+    rt: &(impl Abort + AllocGlobal),
     words: &[&str],
     file: (&str, &str),
     failing: &[u64],
     room: usize,
 ) -> Result<Ran, AllocError> {
+    let alloc = rt.alloc();
     let mut names = Vec::new(alloc);
     for word in words {
         names.push(Name::new(String::from_str(alloc, word)?))?;
     }
     let bytes = Blob::new(Vec::from_slice(alloc, file.1.as_bytes())?);
-    let mut folder = folder_of(alloc, file.0, bytes, failing)?;
+    let mut folder = folder_of(rt, file.0, bytes, failing)?;
     let mut out = MemorySink::new(alloc, room, 7, Vec::new(alloc))?;
     let mut err = MemorySink::new(alloc, 1000, 1000, Vec::new(alloc))?;
     let status = run(alloc, names.as_slice(), &mut folder, &mut out, &mut err);
@@ -53,14 +55,16 @@ fn run_words(
 
 // A folder with one file.
 fn folder_of(
-    alloc: Global,
+    rt: &(impl Abort + AllocGlobal),
     path: &str,
     bytes: Blob,
     failing: &[u64],
 ) -> Result<MemoryFolder, AllocError> {
+    let alloc = rt.alloc();
     let path = Name::new(String::from_str(alloc, path)?);
     let mut files = Vec::new(alloc);
     files.push((path, bytes))?;
+    assert!(rt; MemoryFolder::has_distinct_paths(&files));
     let failing = Vec::from_slice(alloc, failing)?;
     Ok(MemoryFolder::new(files, 1000, failing))
 }
@@ -90,7 +94,7 @@ fn prints_the_verdict_of_a_valid_certificate(rt: HostRuntime) -> Result<(), Fail
         ),
     ];
     for (text, lines) in tables {
-        let ran = run_words(rt.alloc(), &["check", "c"], ("c", text), &[], 1000)?;
+        let ran = run_words(&rt, &["check", "c"], ("c", text), &[], 1000)?;
         assert_eq!(rt; ran.status.code, 0, "{lines}");
         assert_eq!(rt; ran.out.bytes(), lines.as_bytes(), "{lines}");
         assert_eq!(rt; ran.err.bytes(), b"".as_slice(), "{lines}");
@@ -120,14 +124,14 @@ fn tells_what_is_wrong_with_a_text(rt: HostRuntime) -> Result<(), Fail> {
     ];
     for (line, changed, fault) in changes {
         let text = replaced(rt.alloc(), ONE_LINE, line, changed)?;
-        let ran = run_words(rt.alloc(), &["check", "c"], ("c", text.as_str()), &[], 1000)?;
+        let ran = run_words(&rt, &["check", "c"], ("c", text.as_str()), &[], 1000)?;
         assert_eq!(rt; ran.status.code, 12, "{changed}");
         assert_eq!(rt; ran.out.bytes(), b"".as_slice(), "{changed}");
         assert_eq!(rt; ran.err.bytes(), fault.as_bytes(), "{changed}");
     }
     // The first 98 bytes, which end inside the first label.
     let cut = ONE_LINE.get(..98).ok_or("98 bytes")?;
-    let ran = run_words(rt.alloc(), &["check", "c"], ("c", cut), &[], 1000)?;
+    let ran = run_words(&rt, &["check", "c"], ("c", cut), &[], 1000)?;
     assert_eq!(rt; ran.status.code, 12);
     assert_eq!(rt; ran.err.bytes(), b"error 12: refused grammar at 98\n".as_slice());
     Ok(())
@@ -157,7 +161,7 @@ fn refuses_words_and_missing_files(rt: HostRuntime) -> Result<(), Fail> {
         (&["check", "other"], "error 2: usage no file other\n"),
     ];
     for (words, fault) in cases {
-        let ran = run_words(rt.alloc(), words, ("c", ONE_LINE), &[], 1000)?;
+        let ran = run_words(&rt, words, ("c", ONE_LINE), &[], 1000)?;
         assert_eq!(rt; ran.status.code, 2, "{fault}");
         assert_eq!(rt; ran.out.bytes(), b"".as_slice(), "{fault}");
         assert_eq!(rt; ran.err.bytes(), fault.as_bytes(), "{fault}");
@@ -169,12 +173,12 @@ fn refuses_words_and_missing_files(rt: HostRuntime) -> Result<(), Fail> {
 fn tells_faults_of_the_folder_and_of_the_output(rt: HostRuntime) -> Result<(), Fail> {
     // Call 0 begins the file, call 1 is the first read.
     for failing in [0, 1] {
-        let ran = run_words(rt.alloc(), &["check", "c"], ("c", ONE_LINE), &[failing], 1000)?;
+        let ran = run_words(&rt, &["check", "c"], ("c", ONE_LINE), &[failing], 1000)?;
         assert_eq!(rt; ran.status.code, 8, "call {failing}");
         assert_eq!(rt; ran.out.bytes(), b"".as_slice(), "call {failing}");
         assert_eq!(rt; ran.err.bytes(), b"error 8: read fault\n".as_slice(), "call {failing}");
     }
-    let ran = run_words(rt.alloc(), &["check", "c"], ("c", ONE_LINE), &[], 5)?;
+    let ran = run_words(&rt, &["check", "c"], ("c", ONE_LINE), &[], 5)?;
     assert_eq!(rt; ran.status.code, 9);
     assert_eq!(rt; ran.out.bytes(), b"valid".as_slice());
     assert_eq!(rt; ran.err.bytes(), b"error 9: write fault 5\n".as_slice());
@@ -184,7 +188,7 @@ fn tells_faults_of_the_folder_and_of_the_output(rt: HostRuntime) -> Result<(), F
 #[test]
 fn refuses_a_file_past_its_limit(rt: HostRuntime) -> Result<(), Fail> {
     let bytes = vec![in rt.alloc(); b'a'; 268_435_457]?;
-    let mut folder = folder_of(rt.alloc(), "c", Blob::new(bytes), &[])?;
+    let mut folder = folder_of(&rt, "c", Blob::new(bytes), &[])?;
     let mut out = MemorySink::new(rt.alloc(), 10, 10, Vec::new(rt.alloc()))?;
     let mut err = MemorySink::new(rt.alloc(), 100, 100, Vec::new(rt.alloc()))?;
     let mut words = Vec::new(rt.alloc());
@@ -200,10 +204,10 @@ fn refuses_a_file_past_its_limit(rt: HostRuntime) -> Result<(), Fail> {
 #[test]
 fn shows_a_path_in_printable_characters(rt: HostRuntime) -> Result<(), Fail> {
     let long = "a/path/with\ta/tab/and/more/than/sixty/bytes/that/goes/on/and/on/to/its/end";
-    let ran = run_words(rt.alloc(), &["check", long], ("c", ONE_LINE), &[], 1000)?;
+    let ran = run_words(&rt, &["check", long], ("c", ONE_LINE), &[], 1000)?;
     let shown = "error 2: usage no file a/path/with?a/tab/and/more/than/sixty/bytes/that/goes/on/and\n";
     assert_eq!(rt; ran.err.bytes(), shown.as_bytes());
-    let ran = run_words(rt.alloc(), &["check", ""], ("c", ONE_LINE), &[], 1000)?;
+    let ran = run_words(&rt, &["check", ""], ("c", ONE_LINE), &[], 1000)?;
     assert_eq!(rt; ran.err.bytes(), b"error 2: usage no file -\n".as_slice());
     Ok(())
 }
