@@ -32,7 +32,10 @@ pub fn write_fault_text<E: Sink>(err: &mut E, cause: &Cause) -> Result<(), Faile
             ],
         ),
         Cause::ReadFault => {
-            write_pieces(err, &[Piece::Text("error 8: read fault"), Piece::Text("\n")])
+            write_pieces(
+                err,
+                &[Piece::Text("error 8: read fault"), Piece::Text("\n")],
+            )
         }
         Cause::WriteFault { sent } => write_pieces(
             err,
@@ -43,7 +46,10 @@ pub fn write_fault_text<E: Sink>(err: &mut E, cause: &Cause) -> Result<(), Faile
             ],
         ),
         Cause::NoMemory => {
-            write_pieces(err, &[Piece::Text("error 11: no memory"), Piece::Text("\n")])
+            write_pieces(
+                err,
+                &[Piece::Text("error 11: no memory"), Piece::Text("\n")],
+            )
         }
         Cause::Refused(refused) => write_refused(err, refused),
     }
@@ -55,7 +61,10 @@ fn write_usage<E: Sink>(err: &mut E, fault: &UsageFault) -> Result<(), Failed>
 {
     match fault {
         UsageFault::Words => {
-            write_pieces(err, &[Piece::Text("error 2: usage words"), Piece::Text("\n")])
+            write_pieces(
+                err,
+                &[Piece::Text("error 2: usage words"), Piece::Text("\n")],
+            )
         }
         UsageFault::NoFile(path) => write_pieces(
             err,
@@ -136,7 +145,13 @@ fn write_refused<E: Sink>(err: &mut E, refused: &Refused) -> Result<(), Failed>
         ),
         Refused::Arc(fault) => write_net_fault(err, fault),
         Refused::NoMemory => {
-            write_pieces(err, &[Piece::Text("error 12: refused no memory"), Piece::Text("\n")])
+            write_pieces(
+                err,
+                &[
+                    Piece::Text("error 12: refused no memory"),
+                    Piece::Text("\n"),
+                ],
+            )
         }
     }
 }
@@ -191,7 +206,13 @@ fn write_net_fault<E: Sink>(err: &mut E, fault: &NetFault) -> Result<(), Failed>
             ],
         ),
         NetFault::NoMemory => {
-            write_pieces(err, &[Piece::Text("error 12: refused no memory"), Piece::Text("\n")])
+            write_pieces(
+                err,
+                &[
+                    Piece::Text("error 12: refused no memory"),
+                    Piece::Text("\n"),
+                ],
+            )
         }
     }
 }

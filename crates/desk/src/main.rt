@@ -5,10 +5,9 @@ mod fault_text;
 mod pieces;
 mod run;
 mod status;
-mod verdict_lines;
-
 #[cfg(test)]
 mod tests;
+mod verdict_lines;
 
 use desk_io::{Name, RealFolder, RealStream};
 use run::run;

@@ -24,9 +24,7 @@ pub enum Cause {
     /// The folder failed.
     ReadFault,
     /// The output failed after so many of its bytes.
-    WriteFault {
-        sent: usize,
-    },
+    WriteFault { sent: usize },
     NoMemory,
     /// The text is no valid certificate.
     Refused(Refused),

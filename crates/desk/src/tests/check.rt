@@ -105,8 +105,16 @@ fn prints_the_verdict_of_a_valid_certificate(rt: HostRuntime) -> Result<(), Fail
 #[test]
 fn tells_what_is_wrong_with_a_text(rt: HostRuntime) -> Result<(), Fail> {
     let changes = [
-        ("u 317142\n", "u 0317142\n", "error 12: refused grammar at 95\n"),
-        ("v 1\n", "v 0\n", "error 12: refused not-conserved node 0 due 1 sent 0\n"),
+        (
+            "u 317142\n",
+            "u 0317142\n",
+            "error 12: refused grammar at 95\n",
+        ),
+        (
+            "v 1\n",
+            "v 0\n",
+            "error 12: refused not-conserved node 0 due 1 sent 0\n",
+        ),
         (
             "q 257143\n",
             "q 257142\n",
@@ -117,10 +125,26 @@ fn tells_what_is_wrong_with_a_text(rt: HostRuntime) -> Result<(), Fail> {
             "u 317143\n",
             "error 12: refused dual-broken node 0 arc - left 1800001000 right 1800000000\n",
         ),
-        ("u 0\n", "u 1\n", "error 12: refused dual-broken node 1 arc - left 1 right 0\n"),
-        ("a 0 1 60000 7000\n", "a 0 1 0 7000\n", "error 12: refused zero-cost arc 0\n"),
-        ("k 1800000000\n", "k 345600000001\n", "error 12: refused range k 345600000001\n"),
-        ("destination 1\n", "destination 2\n", "error 12: refused node-outside arc - node 2\n"),
+        (
+            "u 0\n",
+            "u 1\n",
+            "error 12: refused dual-broken node 1 arc - left 1 right 0\n",
+        ),
+        (
+            "a 0 1 60000 7000\n",
+            "a 0 1 0 7000\n",
+            "error 12: refused zero-cost arc 0\n",
+        ),
+        (
+            "k 1800000000\n",
+            "k 345600000001\n",
+            "error 12: refused range k 345600000001\n",
+        ),
+        (
+            "destination 1\n",
+            "destination 2\n",
+            "error 12: refused node-outside arc - node 2\n",
+        ),
     ];
     for (line, changed, fault) in changes {
         let text = replaced(rt.alloc(), ONE_LINE, line, changed)?;
@@ -133,7 +157,10 @@ fn tells_what_is_wrong_with_a_text(rt: HostRuntime) -> Result<(), Fail> {
     let cut = ONE_LINE.get(..98).ok_or("98 bytes")?;
     let ran = run_words(&rt, &["check", "c"], ("c", cut), &[], 1000)?;
     assert_eq!(rt; ran.status.code, 12);
-    assert_eq!(rt; ran.err.bytes(), b"error 12: refused grammar at 98\n".as_slice());
+    assert_eq!(rt;
+        ran.err.bytes(),
+        b"error 12: refused grammar at 98\n".as_slice()
+    );
     Ok(())
 }
 
@@ -176,7 +203,11 @@ fn tells_faults_of_the_folder_and_of_the_output(rt: HostRuntime) -> Result<(), F
         let ran = run_words(&rt, &["check", "c"], ("c", ONE_LINE), &[failing], 1000)?;
         assert_eq!(rt; ran.status.code, 8, "call {failing}");
         assert_eq!(rt; ran.out.bytes(), b"".as_slice(), "call {failing}");
-        assert_eq!(rt; ran.err.bytes(), b"error 8: read fault\n".as_slice(), "call {failing}");
+        assert_eq!(rt;
+            ran.err.bytes(),
+            b"error 8: read fault\n".as_slice(),
+            "call {failing}"
+        );
     }
     let ran = run_words(&rt, &["check", "c"], ("c", ONE_LINE), &[], 5)?;
     assert_eq!(rt; ran.status.code, 9);
@@ -194,7 +225,13 @@ fn refuses_a_file_past_its_limit(rt: HostRuntime) -> Result<(), Fail> {
     let mut words = Vec::new(rt.alloc());
     words.push(Name::new(String::from_str(rt.alloc(), "check")?))?;
     words.push(Name::new(String::from_str(rt.alloc(), "c")?))?;
-    let status = run(rt.alloc(), words.as_slice(), &mut folder, &mut out, &mut err);
+    let status = run(
+        rt.alloc(),
+        words.as_slice(),
+        &mut folder,
+        &mut out,
+        &mut err,
+    );
     assert_eq!(rt; status.code, 7);
     assert_eq!(rt; out.bytes(), b"".as_slice());
     assert_eq!(rt; err.bytes(), b"error 7: range file 268435457\n".as_slice());
@@ -205,7 +242,8 @@ fn refuses_a_file_past_its_limit(rt: HostRuntime) -> Result<(), Fail> {
 fn shows_a_path_in_printable_characters(rt: HostRuntime) -> Result<(), Fail> {
     let long = "a/path/with\ta/tab/and/more/than/sixty/bytes/that/goes/on/and/on/to/its/end";
     let ran = run_words(&rt, &["check", long], ("c", ONE_LINE), &[], 1000)?;
-    let shown = "error 2: usage no file a/path/with?a/tab/and/more/than/sixty/bytes/that/goes/on/and\n";
+    let shown =
+        "error 2: usage no file a/path/with?a/tab/and/more/than/sixty/bytes/that/goes/on/and\n";
     assert_eq!(rt; ran.err.bytes(), shown.as_bytes());
     let ran = run_words(&rt, &["check", ""], ("c", ONE_LINE), &[], 1000)?;
     assert_eq!(rt; ran.err.bytes(), b"error 2: usage no file -\n".as_slice());

@@ -8,6 +8,9 @@ returns-in-Ok-clause-file g c =
     (c.in-Found.ensures.found refl) (c.in-Found.ensures.begun refl) c.in-Ok.ensures.value
 
 pub returns-in-Err-TooLarge-clause-unread : goal.returns-in-Err-TooLarge-clause-unread
-returns-in-Err-TooLarge-clause-unread g c = (refl, refl,
-    long_file (g.D.Folder.files c.args.folder.now) (g.D.Source.left c.begin.new.self) c.args.path.now 268435456
-    (c.in-Found.ensures.found refl) (c.in-Found.ensures.begun refl) (rw c.in-Err-TooLarge.field-0-is at c.in-Err-TooLarge.ensures.too_large refl))
+returns-in-Err-TooLarge-clause-unread g c = (
+  refl,
+  refl,
+  long_file (g.D.Folder.files c.args.folder.now) (g.D.Source.left c.begin.new.self) c.args.path.now 268435456
+      (c.in-Found.ensures.found refl) (c.in-Found.ensures.begun refl) (rw c.in-Err-TooLarge.field-0-is at c.in-Err-TooLarge.ensures.too_large refl),
+)
