@@ -1,10 +1,10 @@
 -- Values worked out by hand, which the definitions give: of one line, and of the four stops of Spiess and Florian 1989.
-use Rattle.std.proofs.Common.{◌≡◌, ◌≢◌, ℕ, zero, suc, ◌*◌, ◌<◌, ◌≤◌, List, [], ◌∷◌, length, None, Some, refl, arith, lit≤, IsTrue}
+use Rattle.std.proofs.Common.{◌≡◌, ◌≢◌, ℕ, zero, suc, ◌<◌, ◌≤◌, List, [], ◌∷◌, None, Some, refl, arith, lit≤, IsTrue}
 use Rattle.std.specs.Prelude.{IsFalse, codes}
 use Rattle.definitions.specs.declared.arc.NetArc.{NetArc}
 use Rattle.std.specs.Fmt.{digits}
 use Rattle.definitions.specs.Decimal.{number_line}
-use Rattle.definitions.specs.Network.{NetworkData, out_arcs, in_arcs, boarding_arcs, tail_of, is_boarding}
+use Rattle.definitions.specs.Network.{NetworkData, boarding_arcs, tail_of, is_boarding}
 use Rattle.definitions.specs.Plan.{IsPlan, Conserves, IsWaitedFor, cost_of_plan}
 use Rattle.definitions.specs.Dual.{IsDualFeasible, time_through, weighted_savings, bound_of_labels}
 use Rattle.definitions.specs.Totals.{boarding_stops, least_weight, longest_wait, slack_of}

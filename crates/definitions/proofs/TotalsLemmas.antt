@@ -1,5 +1,5 @@
 -- The least weight of a network is a boarding arc's, and the longest wait is enough at each boarding arc.
-use Rattle.std.proofs.Common.{◌≡◌, ℕ, zero, suc, ◌+◌, ◌*◌, ◌/◌, ◌%◌, ◌<◌, ◌≤◌, ◌==◌, Bool, true, false, cond, min, List, [], ◌∷◌, map, length, refl, ◌∙◌, ap, arith, inl, inr}
+use Rattle.std.proofs.Common.{◌≡◌, ℕ, zero, suc, ◌+◌, ◌*◌, ◌<◌, ◌≤◌, Bool, true, false, cond, min, List, [], ◌∷◌, map, length, refl, ◌∙◌, ap, arith, inl, inr}
 use Rattle.std.specs.List.{All, fold, filter, range_with_len}
 use Rattle.std.specs.Int.{div_ceil}
 use Rattle.std.proofs.Math.Nat.{mul-le-mul_left}
@@ -87,14 +87,3 @@ longest_wait-enough net arc sound lt boards =
     let more : div_ceil net.k (least_weight net) * least_weight net ≤ div_ceil net.k (least_weight net) * weight_of net arc =
     mul-le-mul_left (div_ceil net.k (least_weight net)) (least_weight-le net arc lt boards) in
     rw quotient (omega arith)
-
--- the longest wait is within the wait constant
-pub longest_wait-within : (net : NetworkData) → longest_wait net ≤ net.k
-longest_wait-within net = within net.k (least_weight net)
-  where
-    rounded : (k least : ℕ) → div_ceil k (suc least) ≤ k
-    rounded k least = let parts : suc least * (k / suc least) + k % suc least ≡ k = omega arith in omega arith
-
-    within : (k least : ℕ) → cond (least == 0) 0 (div_ceil k least) ≤ k
-    within k zero = omega arith
-    within k (suc least) = let positive : suc least == 0 ≡ false = ne_eqb (suc least) 0 (λ e. omega arith) in rw positive (rounded k least)
