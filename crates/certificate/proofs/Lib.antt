@@ -8,3 +8,9 @@ pub mod OwnArcs
 pub mod LabelLemmas
 pub mod Faultless
 pub mod Verdicts
+pub mod LineReaders
+pub mod NumberReaders
+pub mod LineForms
+pub mod TextLength
+pub mod FedLemmas
+pub mod PartLemmas

@@ -11,3 +11,5 @@ pub mod DraftFields
 pub mod Judged
 pub mod Claims
 pub mod Refusals
+pub mod Fed
+pub mod CheckerFields

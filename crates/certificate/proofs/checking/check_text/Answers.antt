@@ -1,11 +1,11 @@
-use Rattle.certificate.proofs.Verdicts.{verdict_is, lower_bound, gap_is}
+use Rattle.std.proofs.Common.{rules}
+use Rattle.certificate.specs.Fed.{bytes_so_far}
+use Rattle.certificate.specs.Refusals.{IsRefusedWith}
+use Rattle.certificate.proofs.FedLemmas.{first_refused}
 use Rattle.certificate.proofs.checking.check_text.Goals as goal
 
-pub returns-clause-valid : goal.returns-clause-valid
-returns-clause-valid c = verdict_is c.args.bytes.now c.in_ok-claim.claim c.verdict.result c.in_ok-claim.ensures.text c.in_ok-judge.ensures.valid c.verdict.ensures.value
-
-pub returns-clause-no_plan_is_cheaper : goal.returns-clause-no_plan_is_cheaper
-returns-clause-no_plan_is_cheaper c = lower_bound c.args.bytes.now c.verdict.result (returns-clause-valid c)
-
-pub returns-clause-gap : goal.returns-clause-gap
-returns-clause-gap c = gap_is c.args.bytes.now c.verdict.result (returns-clause-valid c)
+pub returns-in_err-feed-clause-refused : goal.returns-in_err-feed-clause-refused
+returns-in_err-feed-clause-refused c =
+    let answer : IsRefusedWith c.args.bytes.now c.in_err-feed.field-0.0 =
+    first_refused (bytes_so_far c.new-checker.result) c.args.bytes.now c.in_err-feed.field-0.0 c.new-checker.ensures.bytes (c.in_err-feed.ensures.refused c.new-checker.ensures.fresh) in
+    search rules
