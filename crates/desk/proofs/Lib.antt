@@ -1,2 +1,3 @@
 pub mod FileLemmas
 pub mod PrintLemmas
+pub mod FeedLemmas

@@ -4,7 +4,6 @@ use Rattle.definitions.specs.declared.limits.TheConstants.{FILE_LIMIT}
 use Rattle.definitions.specs.Causes.{Rose}
 use Rattle.desk_io.specs.Told.{Appends, file_at}
 use Rattle.certificate.specs.declared.checking.Verdict.{Verdict}
-use Rattle.certificate.specs.Valid.{NoPlanIsCheaperIn}
 use Rattle.desk.specs.Command.{Check}
 use Rattle.desk.specs.Output.{verdict_lines}
 use Rattle.desk.specs.Outcome.{Files, IsMissing, IsTooLong, IsRead, PrintedInPart, PrintedWhole}
@@ -19,23 +18,21 @@ NamesPath path (Usage (NoFile name)) = name ≡ path
 NamesPath path NoMemory = Unit {0}
 NamesPath path cause = ⊥
 
--- why the file at the path was not read; the counts are those of the folder
-abbrev pub Unread : Files → List ℕ → ℕ → ℕ → Cause → Type 0
-Unread files path old_count new_count (Usage (NoFile name)) = (name ≡ path) × IfSome files (λ told. file_at told path ≡ None)
-Unread files path old_count new_count ReadFault = Rose old_count new_count
-Unread files path old_count new_count (Range limit count) =
-    (limit ≡ File) × (count ≡ FILE_LIMIT + 1) × IfSome files (λ told. (bytes : List ℕ) × (file_at told path ≡ Some bytes) × (FILE_LIMIT < length bytes))
-Unread files path old_count new_count NoMemory = Unit {0}
-Unread files path old_count new_count cause = ⊥
+-- why the file at the path has no verdict; the counts are those of the folder
+abbrev pub Unchecked : Files → List ℕ → ℕ → ℕ → Cause → Type 0
+Unchecked files path old_count new_count (Usage (NoFile name)) = (name ≡ path) × IfSome files (λ told. file_at told path ≡ None)
+Unchecked files path old_count new_count ReadFault = Rose old_count new_count
+Unchecked files path old_count new_count (Range limit count) = (limit ≡ File) × (count ≡ FILE_LIMIT + 1) × IsTooLong files (Some (Check path))
+Unchecked files path old_count new_count NoMemory = Unit {0}
+Unchecked files path old_count new_count (Refused fault) = IsRead files (Some (Check path))
+Unchecked files path old_count new_count cause = ⊥
 
--- how the printing of a text's verdict ends; the counts are those of the output, which was old and is new
-abbrev pub Printed : List ℕ → ℕ → ℕ → Option (List ℕ) → Option (List ℕ) → Cause → Type 0
-Printed bytes old_count new_count old new Done = (verdict : Verdict) × NoPlanIsCheaperIn bytes verdict × Appends old new (verdict_lines verdict)
-Printed bytes old_count new_count old new (WriteFault sent) =
-    (verdict : Verdict) × NoPlanIsCheaperIn bytes verdict × (sent < length (verdict_lines verdict)) × Appends old new (take sent (verdict_lines verdict)) × Rose old_count new_count
-Printed bytes old_count new_count old new (Refused fault) = new ≡ old
-Printed bytes old_count new_count old new NoMemory = new ≡ old
-Printed bytes old_count new_count old new cause = ⊥
+-- how the printing of a verdict ends; the counts are those of the output, which was old and is new
+abbrev pub Printed : Verdict → ℕ → ℕ → Option (List ℕ) → Option (List ℕ) → Cause → Type 0
+Printed verdict old_count new_count old new Done = Appends old new (verdict_lines verdict)
+Printed verdict old_count new_count old new (WriteFault sent) = (sent < length (verdict_lines verdict)) × Appends old new (take sent (verdict_lines verdict)) × Rose old_count new_count
+Printed verdict old_count new_count old new NoMemory = new ≡ old
+Printed verdict old_count new_count old new cause = ⊥
 
 -- how `check PATH` ends
 abbrev pub EndsCheck : Files → List ℕ → ℕ → ℕ → ℕ → ℕ → Option (List ℕ) → Option (List ℕ) → Cause → Type 0

@@ -6,3 +6,4 @@ pub mod Pieces
 pub mod Printing
 pub mod Outcome
 pub mod Ends
+pub mod Fed

@@ -2,6 +2,7 @@
 #![tactic(auto)]
 
 mod fault_text;
+mod feeding;
 mod pieces;
 mod run;
 mod status;

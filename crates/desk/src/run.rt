@@ -3,21 +3,21 @@
 ghost use Rattle.std.specs.Prelude.{◌≡◌, ◌↔◌, ◌+◌, ◌≤◌, ℕ, List, length, None, Some, IfOk, IfErr, IfSome};
 ghost use Rattle.std.specs.Option.{option_copied};
 ghost use Rattle.definitions.specs.Causes.{Rose};
-ghost use Rattle.desk_io.specs.Told.{file_at};
 ghost use Rattle.certificate.specs.declared.refused.Refused.{Refused as RefusedText};
-ghost use Rattle.desk.specs.Command.{path_of, command_of};
-ghost use Rattle.desk.specs.Ends.{EndsCheck, NamesPath, Printed, Unread};
+ghost use Rattle.desk.specs.Command.{Check, path_of, command_of};
+ghost use Rattle.desk.specs.Ends.{EndsCheck, NamesPath, Printed, Unchecked};
 ghost use Rattle.desk.specs.FaultText.{fault_text};
-ghost use Rattle.desk.specs.Outcome.{IsMissing, IsRead, IsTooLong, PrintedInPart, PrintedWhole};
+ghost use Rattle.desk.specs.Outcome.{IsChecked, IsMissing, IsRead, IsTooLong, PrintedInPart, PrintedWhole};
 ghost use Rattle.desk.specs.Printing.{Prints};
 ghost use Rattle.desk.specs.Status.{code_of, WritesNothing};
 
 use crate::fault_text::write_fault_text;
+use crate::feeding::feed_all;
 use crate::status::{Cause, Limit, Status, UsageFault};
 use crate::verdict_lines::verdict_lines;
-use certificate::{Refused, check_text};
+use certificate::{Checker, Refused, Verdict};
 use definitions::FILE_LIMIT;
-use desk_io::{Begin, Folder, Name, ReadAll, Sink, read_all, write_all};
+use desk_io::{Begin, Folder, Name, Sink, write_all};
 use std::alloc::Global;
 
 /// Carries out the command of the words, and tells how it ended.
@@ -85,28 +85,29 @@ fn path_of(words: &[Name]) -> Option<&str>
 fn check<D: Folder, O: Sink>(alloc: Global, path: &str, folder: &mut D, out: &mut O) -> Cause
     ensures ends { EndsCheck (D.files folder.old) path.now (D.count folder.old) (D.count folder.new) (O.count out.old) (O.count out.new) (O.written out.old) (O.written out.new) result }
 {
-    match read_file(alloc, path, folder) {
-        Ok(bytes) => print_verdict(alloc, bytes.as_slice(), out),
+    match verdict_of_file(alloc, path, folder) {
+        Ok(verdict) => print_verdict(alloc, &verdict, out),
         Err(cause) => cause,
     }
 }
 
-// The bytes of the file at the path, or why there are none.
-fn read_file<D: Folder>(alloc: Global, path: &str, folder: &mut D) -> Result<Vec<u8>, Cause>
-    ensures file { IfOk result (λ bytes. IfSome (D.files folder.old) (λ told. file_at told path.now ≡ Some bytes.items)) }
-    ensures within { IfOk result (λ bytes. length bytes.items ≤ FILE_LIMIT) }
-    ensures unread { IfErr result (Unread (D.files folder.old) path.now (D.count folder.old) (D.count folder.new)) }
+// The verdict of the certificate in the file at the path, or why there is none.
+fn verdict_of_file<D: Folder>(alloc: Global, path: &str, folder: &mut D) -> Result<Verdict, Cause>
+    ensures checked { IfOk result (IsChecked (D.files folder.old) (Some (Check path.now))) }
+    ensures gap { IfOk result (λ verdict. verdict.bound ≤ verdict.cost) }
+    ensures unchecked { IfErr result (Unchecked (D.files folder.old) path.now (D.count folder.old) (D.count folder.new)) }
 {
     match folder.begin(path) {
         Begin::Found => {}
         Begin::Missing => return Err(no_file(alloc, path)),
         Begin::Failed => return Err(Cause::ReadFault),
     }
-    match read_all(alloc, folder, FILE_LIMIT) {
-        Ok(bytes) => Ok(bytes),
-        Err(ReadAll::ReadFault) => Err(Cause::ReadFault),
-        Err(ReadAll::TooLarge) => Err(Cause::Range(Limit::File, FILE_LIMIT as u128 + 1)),
-        Err(ReadAll::NoMemory) => Err(Cause::NoMemory),
+    let mut checker = Checker::new(alloc);
+    feed_all(folder, &mut checker)?;
+    match checker.finish() {
+        Ok(verdict) => Ok(verdict),
+        Err(Refused::NoMemory) => Err(Cause::NoMemory),
+        Err(refused) => Err(Cause::Refused(refused)),
     }
 }
 
@@ -120,16 +121,12 @@ fn no_file(alloc: Global, path: &str) -> Cause
     }
 }
 
-// Prints the verdict of a certificate's text, and tells how that ended.
-fn print_verdict<O: Sink>(alloc: Global, bytes: &[u8], out: &mut O) -> Cause
-    ensures printed { Printed bytes.now (O.count out.old) (O.count out.new) (O.written out.old) (O.written out.new) result }
+// Prints a verdict, and tells how that ended.
+fn print_verdict<O: Sink>(alloc: Global, verdict: &Verdict, out: &mut O) -> Cause
+    requires gap { verdict.now.bound ≤ verdict.now.cost }
+    ensures printed { Printed verdict.now (O.count out.old) (O.count out.new) (O.written out.old) (O.written out.new) result }
 {
-    let verdict = match check_text(alloc, bytes) {
-        Ok(verdict) => verdict,
-        Err(Refused::NoMemory) => return Cause::NoMemory,
-        Err(refused) => return Cause::Refused(refused),
-    };
-    let Ok(lines) = verdict_lines(alloc, &verdict) else {
+    let Ok(lines) = verdict_lines(alloc, verdict) else {
         return Cause::NoMemory;
     };
     match write_all(out, lines.as_bytes()) {

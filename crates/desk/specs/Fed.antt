@@ -1,0 +1,26 @@
+-- A text that was read in pieces, and why it was not.
+use Rattle.std.specs.Prelude.{◌≡◌, ℕ, ◌+◌, ◌<◌, ◌≤◌, List, ◌++◌, length, Option, None, IfSome}
+use Rattle.definitions.specs.declared.limits.TheConstants.{FILE_LIMIT}
+use Rattle.definitions.specs.Causes.{Rose}
+use Rattle.certificate.specs.Fed.{CheckerData, bytes_so_far}
+use Rattle.desk.specs.declared.status.Limit.TheVariants.{File}
+use Rattle.desk.specs.declared.status.Cause.{Cause}
+use Rattle.desk.specs.declared.status.Cause.TheVariants.{Range, ReadFault, NoMemory}
+
+-- where the checker has not refused, it had not before, and was fed the piece
+abbrev pub Feeds : CheckerData → List ℕ → CheckerData → Type 0
+Feeds old piece new = new.refused ≡ None → (old.refused ≡ None) × (bytes_so_far new ≡ bytes_so_far old ++ piece)
+
+-- all bytes that were left are within the limit, and were fed to the checker unless it refused
+pub record IsFed (left : Option (List ℕ)) (checker : CheckerData) : Type 0 where
+  pub bytes : List ℕ
+  pub told : IfSome left (λ told. bytes ≡ told)
+  pub within : length bytes ≤ FILE_LIMIT
+  pub fed : checker.refused ≡ None → bytes_so_far checker ≡ bytes
+
+-- why the bytes that were left were not all read; the counts are those of their source
+abbrev pub Unfed : Option (List ℕ) → ℕ → ℕ → Cause → Type 0
+Unfed left old_count new_count ReadFault = Rose old_count new_count
+Unfed left old_count new_count (Range limit count) = (limit ≡ File) × (count ≡ FILE_LIMIT + 1) × IfSome left (λ told. FILE_LIMIT < length told)
+Unfed left old_count new_count NoMemory = Unit {0}
+Unfed left old_count new_count cause = ⊥
