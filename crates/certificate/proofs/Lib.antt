@@ -8,3 +8,4 @@ pub mod OwnArcs
 pub mod LabelLemmas
 pub mod Faultless
 pub mod Verdicts
+pub mod KnownValues
