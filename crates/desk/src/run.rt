@@ -1,14 +1,14 @@
 //! All that the program does, over a folder and two streams.
 
-ghost use Rattle.std.specs.Prelude.{◌≡◌, ◌↔◌, ◌+◌, ◌≤◌, ℕ, List, length, None, Some, IfOk, IfErr, IfSome};
+ghost use Rattle.std.specs.Prelude.{◌≡◌, ◌↔◌, ◌+◌, ◌≤◌, ◌⊎◌, ℕ, List, length, None, Some, IfOk, IfErr, IfSome};
 ghost use Rattle.std.specs.Option.{option_copied};
 ghost use Rattle.definitions.specs.Causes.{Rose};
-ghost use Rattle.desk_io.specs.Told.{file_at};
+ghost use Rattle.desk_io.specs.Told.{Appends, file_at};
 ghost use Rattle.certificate.specs.declared.refused.Refused.{Refused as RefusedText};
 ghost use Rattle.desk.specs.Command.{path_of, command_of};
-ghost use Rattle.desk.specs.Ends.{EndsCheck, NamesPath, Printed, Unread};
+ghost use Rattle.desk.specs.Ends.{EndsCheck, EndsPrinting, NamesPath, Unread};
 ghost use Rattle.desk.specs.FaultText.{fault_text};
-ghost use Rattle.desk.specs.Outcome.{IsMissing, IsRead, IsTooLong, PrintedInPart, PrintedWhole};
+ghost use Rattle.desk.specs.Outcome.{IsMissing, IsOutcome, IsRefused, IsTooLong, LiesOutside, PrintedInPart, PrintedWhole};
 ghost use Rattle.desk.specs.Printing.{Prints};
 ghost use Rattle.desk.specs.Status.{code_of, WritesNothing};
 
@@ -30,7 +30,7 @@ use std::alloc::Global;
 ///
 /// The first that applies, in this order: `Usage` where the words are no command or the file is not
 /// there, `ReadFault` where the folder failed, `Range` where the file is longer than its limit,
-/// `Refused` where its text is no valid certificate, `WriteFault` where `out` failed, else `Done`.
+/// `Refused` where its text is refused, `WriteFault` where `out` failed, else `Done`.
 /// `NoMemory` may come in place of any.
 pub fn run<D: Folder, O: Sink, E: Sink>(
     alloc: Global,
@@ -53,8 +53,12 @@ pub fn run<D: Folder, O: Sink, E: Sink>(
     ensures range { (limit : Limit) (count : ℕ) → result.cause ≡ Cause.Range limit count
         → (limit ≡ Limit.File) × (count ≡ FILE_LIMIT + 1) × IsTooLong (D.files folder.old) (command_of words.now) }
     ensures refused { (fault : RefusedText) → result.cause ≡ Cause.Refused fault
-        → IsRead (D.files folder.old) (command_of words.now) }
+        → IsRefused (D.files folder.old) (command_of words.now) fault }
     ensures write_cause { (sent : ℕ) → result.cause ≡ Cause.WriteFault sent → Rose (O.count out.old) (O.count out.new) }
+
+    // Over a folder that tells its files, all this in one relation.
+    ensures outcome { IfSome (D.files folder.old) (λ files. LiesOutside result.cause ⊎ ((output : List ℕ)
+        × IsOutcome files (command_of words.now) result.cause output × Appends (O.written out.old) (O.written out.new) output)) }
 
     // What is appended: the first bytes of the lines where `out` failed, and after the other causes nothing.
     ensures sent { (sent : ℕ) → result.cause ≡ Cause.WriteFault sent
@@ -83,7 +87,10 @@ fn path_of(words: &[Name]) -> Option<&str>
 
 // Prints the verdict of the certificate at the path.
 fn check<D: Folder, O: Sink>(alloc: Global, path: &str, folder: &mut D, out: &mut O) -> Cause
-    ensures ends { EndsCheck (D.files folder.old) path.now (D.count folder.old) (D.count folder.new) (O.count out.old) (O.count out.new) (O.written out.old) (O.written out.new) result }
+    ensures ends { EndsCheck
+        (record { files = D.files folder.old; old_count = D.count folder.old; new_count = D.count folder.new })
+        (record { old_count = O.count out.old; new_count = O.count out.new; old = O.written out.old; new = O.written out.new })
+        path.now result }
 {
     match read_file(alloc, path, folder) {
         Ok(bytes) => print_verdict(alloc, bytes.as_slice(), out),
@@ -95,7 +102,8 @@ fn check<D: Folder, O: Sink>(alloc: Global, path: &str, folder: &mut D, out: &mu
 fn read_file<D: Folder>(alloc: Global, path: &str, folder: &mut D) -> Result<Vec<u8>, Cause>
     ensures file { IfOk result (λ bytes. IfSome (D.files folder.old) (λ told. file_at told path.now ≡ Some bytes.items)) }
     ensures within { IfOk result (λ bytes. length bytes.items ≤ FILE_LIMIT) }
-    ensures unread { IfErr result (Unread (D.files folder.old) path.now (D.count folder.old) (D.count folder.new)) }
+    ensures unread { IfErr result (Unread
+        (record { files = D.files folder.old; old_count = D.count folder.old; new_count = D.count folder.new }) path.now) }
 {
     match folder.begin(path) {
         Begin::Found => {}
@@ -122,7 +130,8 @@ fn no_file(alloc: Global, path: &str) -> Cause
 
 // Prints the verdict of a certificate's text, and tells how that ended.
 fn print_verdict<O: Sink>(alloc: Global, bytes: &[u8], out: &mut O) -> Cause
-    ensures printed { Printed bytes.now (O.count out.old) (O.count out.new) (O.written out.old) (O.written out.new) result }
+    ensures ends { EndsPrinting bytes.now
+        (record { old_count = O.count out.old; new_count = O.count out.new; old = O.written out.old; new = O.written out.new }) result }
 {
     let verdict = match check_text(alloc, bytes) {
         Ok(verdict) => verdict,
