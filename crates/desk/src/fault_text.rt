@@ -36,9 +36,15 @@ pub fn write_fault_text<E: Sink>(err: &mut E, cause: &Cause) -> Result<(), Faile
                 ],
             )
         }
-        Cause::ReadFault => write_pieces(err, &[Piece::Text("error 8: read fault"), Piece::Text("\n")]),
+        Cause::ReadFault => write_pieces(
+            err,
+            &[Piece::Text("error 8: read fault"), Piece::Text("\n")],
+        ),
         Cause::WriteFault { sent } => write_numbered(err, "error 9: write fault ", *sent as u128),
-        Cause::NoMemory => write_pieces(err, &[Piece::Text("error 11: no memory"), Piece::Text("\n")]),
+        Cause::NoMemory => write_pieces(
+            err,
+            &[Piece::Text("error 11: no memory"), Piece::Text("\n")],
+        ),
         Cause::Refused(refused) => write_refused(err, refused),
     }
 }
@@ -48,10 +54,20 @@ fn write_usage<E: Sink>(err: &mut E, fault: &UsageFault) -> Result<(), Failed>
     ensures prints { Prints (E.count err.old) (E.count err.new) (E.written err.old) (E.written err.new) (concat (usage_text fault.now)) }
 {
     match fault {
-        UsageFault::Words => write_pieces(err, &[Piece::Text("error 2: usage words"), Piece::Text("\n")]),
+        UsageFault::Words => write_pieces(
+            err,
+            &[Piece::Text("error 2: usage words"), Piece::Text("\n")],
+        ),
         UsageFault::NoFile(path) => {
             let path = Piece::Shown(path.as_str());
-            write_pieces(err, &[Piece::Text("error 2: usage no file "), path, Piece::Text("\n")])
+            write_pieces(
+                err,
+                &[
+                    Piece::Text("error 2: usage no file "),
+                    path,
+                    Piece::Text("\n"),
+                ],
+            )
         }
     }
 }

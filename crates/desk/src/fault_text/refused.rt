@@ -36,7 +36,10 @@ pub fn write_refused<E: Sink>(err: &mut E, refused: &Refused) -> Result<(), Fail
         Refused::Arc(fault) => write_net_fault(err, fault),
         Refused::NoMemory => write_pieces(
             err,
-            &[Piece::Text("error 12: refused no memory"), Piece::Text("\n")],
+            &[
+                Piece::Text("error 12: refused no memory"),
+                Piece::Text("\n"),
+            ],
         ),
     }
 }
@@ -62,7 +65,10 @@ fn write_net_fault<E: Sink>(err: &mut E, fault: &NetFault) -> Result<(), Failed>
         }
         NetFault::NoMemory => write_pieces(
             err,
-            &[Piece::Text("error 12: refused no memory"), Piece::Text("\n")],
+            &[
+                Piece::Text("error 12: refused no memory"),
+                Piece::Text("\n"),
+            ],
         ),
     }
 }
@@ -103,7 +109,12 @@ fn write_node_outside<E: Sink>(err: &mut E, arc: Option<u32>, node: u128) -> Res
 }
 
 // Writes the fault text of a node that does not send on what is due.
-fn write_not_conserved<E: Sink>(err: &mut E, node: u128, due: u128, sent: u128) -> Result<(), Failed>
+fn write_not_conserved<E: Sink>(
+    err: &mut E,
+    node: u128,
+    due: u128,
+    sent: u128,
+) -> Result<(), Failed>
     ensures prints { Prints (E.count err.old) (E.count err.new) (E.written err.old) (E.written err.new)
         (concat (codes "error 12: refused not-conserved node " ∷ numeral node ∷ codes " due " ∷ numeral due ∷ codes " sent " ∷ numeral sent ∷ line_end ∷ [])) }
 {
