@@ -1,10 +1,16 @@
 pub mod Readers
 pub mod Digits
 pub mod Taken
+pub mod Exact
+pub mod ExactNumbers
+pub mod ExactLines
+pub mod ExactJudged
+pub mod LineStops
 pub mod Growth
 pub mod Keeping
 pub mod Memory
 pub mod OwnArcs
 pub mod LabelLemmas
 pub mod Faultless
+pub mod Refusing
 pub mod Verdicts

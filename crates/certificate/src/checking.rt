@@ -4,7 +4,8 @@ ghost use Rattle.std.specs.Prelude.{◌≡◌, ◌≤◌, ◌⊎◌, IfOk, OnOk,
 ghost use Rattle.certificate.specs.Spelling.{spelling};
 ghost use Rattle.certificate.specs.Valid.{HasGoodLines, IsValid, HasVerdict, NoPlanIsCheaperIn, verdict_of};
 ghost use Rattle.certificate.specs.Judged.{IsFirstFailure};
-ghost use Rattle.certificate.specs.Refusals.{refusal_of, HasFaultyLine, IsRefusedWith};
+ghost use Rattle.certificate.specs.Stops.{refusal_of, StopsWith};
+ghost use Rattle.certificate.specs.Refusals.{IsRefusedWith};
 
 use crate::claim::Claim;
 use crate::draft::Draft;
@@ -51,7 +52,7 @@ pub fn check_text(alloc: Global, bytes: &[u8]) -> Result<Verdict, Refused>
 fn read(alloc: Global, bytes: &[u8]) -> Result<Claim, Refused>
     ensures text { IfOk result (λ claim. bytes.now ≡ spelling claim) }
     ensures lines { IfOk result HasGoodLines }
-    ensures refused { IfErr result (λ answer. (answer ≡ Refused.NoMemory) ⊎ HasFaultyLine bytes.now answer) }
+    ensures refused { IfErr result (λ answer. (answer ≡ Refused.NoMemory) ⊎ StopsWith bytes.now answer) }
 {
     let mut draft = Draft::new(alloc);
     let mut rest = bytes;

@@ -1,4 +1,5 @@
 use Rattle.certificate.proofs.Verdicts.{verdict_is, lower_bound, gap_is}
+use Rattle.certificate.proofs.Refusing.{read_refused}
 use Rattle.certificate.proofs.checking.check_text.Goals as goal
 
 pub returns-clause-valid : goal.returns-clause-valid
@@ -9,3 +10,6 @@ returns-clause-no_plan_is_cheaper c = lower_bound c.args.bytes.now c.verdict.res
 
 pub returns-clause-gap : goal.returns-clause-gap
 returns-clause-gap c = gap_is c.args.bytes.now c.verdict.result (returns-clause-valid c)
+
+pub returns-in_err-claim-clause-refused : goal.returns-in_err-claim-clause-refused
+returns-in_err-claim-clause-refused c = read_refused c.from_residual.result c.args.bytes.now _ c.in_err-claim.ensures.refused c.from_residual.ensures.1
