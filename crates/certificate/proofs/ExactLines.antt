@@ -162,7 +162,7 @@ wide_arc_exact =
 abbrev pub arc_shape : List ℕ → Result (Line × List ℕ) Fault
 arc_shape bytes = wide_arc_at bytes >>= λ a. Ok (Line.Arc (arc_of_wide a.0), a.1)
 
-arc_shape_exact : IsExact arc_shape line_text HasArc
+pub arc_shape_exact : IsExact arc_shape line_text HasArc
 arc_shape_exact =
     next_exact wide_arc_at (λ a. arc_line (arc_of_wide a)) AreShort (λ a bytes. Ok (Line.Arc (arc_of_wide a), bytes)) (λ a y. []) (λ a y. y ≡ Line.Arc (arc_of_wide a)) line_text HasArc
     (record {

@@ -12,5 +12,12 @@ pub mod Memory
 pub mod OwnArcs
 pub mod LabelLemmas
 pub mod Faultless
+pub mod Fronts
+pub mod FrontHeader
+pub mod FrontRows
+pub mod Advancing
+pub mod NextLines
+pub mod Spelled
+pub mod Unique
 pub mod Refusing
 pub mod Verdicts
