@@ -1,10 +1,12 @@
 //! Whether a text is a valid certificate.
 
-ghost use Rattle.std.specs.Prelude.{◌≡◌, ◌≤◌, ◌⊎◌, IfOk, OnOk, IfErr};
-ghost use Rattle.certificate.specs.Spelling.{spelling};
+ghost use Rattle.std.specs.Prelude.{◌≡◌, ◌≤◌, ◌⊎◌, IfOk, OnOk, IfErr, MatchResult};
+ghost use Rattle.definitions.specs.Duality.{NoPlanIsCheaper};
+ghost use Rattle.certificate.specs.Spelling.{Certificate, network_of, spelling};
 ghost use Rattle.certificate.specs.Valid.{HasGoodLines, IsValid, HasVerdict, NoPlanIsCheaperIn, verdict_of};
 ghost use Rattle.certificate.specs.Judged.{IsFirstFailure};
-ghost use Rattle.certificate.specs.Refusals.{refusal_of, HasFaultyLine, IsRefusedWith};
+ghost use Rattle.certificate.specs.Stops.{refusal_of, StopsWith};
+ghost use Rattle.certificate.specs.Refusals.{IsRefusedWith};
 
 use crate::claim::Claim;
 use crate::draft::Draft;
@@ -40,6 +42,10 @@ pub fn check_text(alloc: Global, bytes: &[u8]) -> Result<Verdict, Refused>
     ensures valid { IfOk result (HasVerdict bytes.now) }
     ensures no_plan_is_cheaper { IfOk result (NoPlanIsCheaperIn bytes.now) }
     ensures refused { IfErr result (IsRefusedWith bytes.now) }
+    ensures only { (certificate : Certificate) → IsValid certificate → bytes.now ≡ spelling certificate →
+        MatchResult result (λ verdict. verdict ≡ verdict_of certificate) (λ answer. answer ≡ Refused.NoMemory) }
+    ensures bound_holds { IfOk result (λ verdict. (certificate : Certificate) → IsValid certificate → bytes.now ≡ spelling certificate →
+        NoPlanIsCheaper (network_of certificate) certificate.destination certificate.demand verdict.bound) }
     ensures gap { IfOk result (λ verdict. verdict.bound ≤ verdict.cost) }
 {
     let claim = read(alloc, bytes)?;
@@ -51,7 +57,7 @@ pub fn check_text(alloc: Global, bytes: &[u8]) -> Result<Verdict, Refused>
 fn read(alloc: Global, bytes: &[u8]) -> Result<Claim, Refused>
     ensures text { IfOk result (λ claim. bytes.now ≡ spelling claim) }
     ensures lines { IfOk result HasGoodLines }
-    ensures refused { IfErr result (λ answer. (answer ≡ Refused.NoMemory) ⊎ HasFaultyLine bytes.now answer) }
+    ensures refused { IfErr result (λ answer. (answer ≡ Refused.NoMemory) ⊎ StopsWith bytes.now answer) }
 {
     let mut draft = Draft::new(alloc);
     let mut rest = bytes;
