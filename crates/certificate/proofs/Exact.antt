@@ -54,9 +54,16 @@ same_text r t u Fits h exact = record {
   takes = λ bytes x rest e. (let k = exact.takes bytes x rest e in (ap (λ bs. bs ++ rest) (sym (h x k.1)) ∙ k.0, k.1));
   again = λ x rest fits. ap (λ bs. r (bs ++ rest)) (sym (h x fits)) ∙ exact.again x rest fits;
   stops = λ bytes f e. (let s = exact.stops bytes f e in record {
-    before = s.before; after = s.after; parts = s.parts; says = s.says; value = s.value; fits = s.fits; rest = s.rest;
+    before = s.before;
+    after = s.after;
+    parts = s.parts;
+    says = s.says;
+    value = s.value;
+    fits = s.fits;
+    rest = s.rest;
     whole = s.whole ∙ h s.value s.fits;
-    more = s.more; local = s.local;
+    more = s.more;
+    local = s.local;
   });
 }
 
@@ -88,7 +95,15 @@ after_byte {A} c r text Fits exact = record {
   where
     stops : (bytes : List ℕ) (f : Fault) → (byte_at c bytes >>= r) ≡ Err f → StopsIn (λ bs. byte_at c bs >>= r) (λ x. c ∷ text x) Fits bytes f
     stops [] f e = record {
-      before = []; after = []; parts = refl; says = cc; value = exact.some.0; fits = exact.some.1; rest = c ∷ text exact.some.0; whole = refl; more = omega arith;
+      before = [];
+      after = [];
+      parts = refl;
+      says = cc;
+      value = exact.some.0;
+      fits = exact.some.1;
+      rest = c ∷ text exact.some.0;
+      whole = refl;
+      more = omega arith;
       local = λ byte left other h. absurd cc;
     }
     stops (b ∷ bs) f e = elim (chosen (b == c) (Ok bs) (Err (fault.Stop (length (b ∷ bs)))) (byte_at c (b ∷ bs)) refl) [

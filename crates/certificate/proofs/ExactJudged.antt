@@ -143,13 +143,13 @@ range_agrees limit g n is = elim (leb_tells n g) [
 node_agrees : (nodes n : ℕ) → Agrees (nat_lt n nodes) (fault.Arc (net_fault.NodeOutside None n)) (refused_if (nat_le nodes n) (refused.Arc (net_fault.NodeOutside None n)))
 node_agrees nodes n = elim (leb_tells nodes n) [
   | inl w ↦ record {
-      right = λ e. absurd (let k : nat_lt n nodes ≡ false = le-ltb n nodes w.1 in cc);
-      wrong = λ e size. (let k : nat_le nodes n ≡ true = w.0 in rw k refl);
-    }
+    right = λ e. absurd (let k : nat_lt n nodes ≡ false = le-ltb n nodes w.1 in cc);
+    wrong = λ e size. (let k : nat_le nodes n ≡ true = w.0 in rw k refl);
+  }
   | inr w ↦ record {
-      right = λ e. (let k : nat_le nodes n ≡ false = w.0 in rw k refl);
-      wrong = λ e. absurd (let past = w.1 in let k : nat_lt n nodes ≡ true = lt-ltb n nodes (omega arith) in cc);
-    }
+    right = λ e. (let k : nat_le nodes n ≡ false = w.0 in rw k refl);
+    wrong = λ e. absurd (let past = w.1 in let k : nat_lt n nodes ≡ true = lt-ltb n nodes (omega arith) in cc);
+  }
 ]
 
 -- ---- arcs

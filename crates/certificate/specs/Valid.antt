@@ -46,6 +46,10 @@ pub record HasVerdict (bytes : List ℕ) (verdict : Verdict) : Type 0 where
   pub valid : IsValid certificate
   pub shown : verdict ≡ verdict_of certificate
 
+-- the bytes are the text of no valid certificate
+abbrev pub IsNoCertificate : List ℕ → Type 0
+IsNoCertificate bytes = (certificate : Certificate) → IsValid certificate → bytes ≡ spelling certificate → ⊥
+
 -- the bytes are the text of a valid certificate with this verdict, and no plan for its problem, at any scale, costs less than the scale times the bound
 pub record NoPlanIsCheaperIn (bytes : List ℕ) (verdict : Verdict) : Type 0 where
   pub text : HasVerdict bytes verdict

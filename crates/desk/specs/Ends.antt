@@ -5,7 +5,7 @@ use Rattle.definitions.specs.Causes.{Rose}
 use Rattle.desk_io.specs.Told.{Appends, file_at}
 use Rattle.certificate.specs.declared.checking.Verdict.{Verdict}
 use Rattle.certificate.specs.declared.refused.Refused.TheVariants as refused
-use Rattle.certificate.specs.Valid.{NoPlanIsCheaperIn}
+use Rattle.certificate.specs.Valid.{IsNoCertificate, NoPlanIsCheaperIn}
 use Rattle.certificate.specs.Refusals.{IsRefusedWith}
 use Rattle.desk.specs.Command.{Check}
 use Rattle.desk.specs.Output.{verdict_lines}
@@ -49,7 +49,7 @@ EndsPrinting bytes writes Done = (verdict : Verdict) × NoPlanIsCheaperIn bytes 
 EndsPrinting bytes writes (WriteFault sent) =
     (verdict : Verdict) × NoPlanIsCheaperIn bytes verdict × (sent < length (verdict_lines verdict))
     × Appends writes.old writes.new (take sent (verdict_lines verdict)) × Rose writes.old_count writes.new_count
-EndsPrinting bytes writes (Refused fault) = IsRefusedWith bytes fault × (fault ≢ refused.NoMemory) × (writes.new ≡ writes.old)
+EndsPrinting bytes writes (Refused fault) = IsRefusedWith bytes fault × (fault ≢ refused.NoMemory) × IsNoCertificate bytes × (writes.new ≡ writes.old)
 EndsPrinting bytes writes NoMemory = writes.new ≡ writes.old
 EndsPrinting bytes writes cause = ⊥
 

@@ -5,7 +5,7 @@ use Rattle.desk_io.specs.Told.{Appends, file_at}
 use Rattle.certificate.specs.declared.checking.Verdict.{Verdict}
 use Rattle.certificate.specs.declared.refused.Refused.{Refused as RefusedText}
 use Rattle.certificate.specs.declared.refused.Refused.TheVariants as refused
-use Rattle.certificate.specs.Valid.{NoPlanIsCheaperIn}
+use Rattle.certificate.specs.Valid.{IsNoCertificate, NoPlanIsCheaperIn}
 use Rattle.certificate.specs.Refusals.{IsRefusedWith}
 use Rattle.desk.specs.declared.status.Limit.TheVariants.{File}
 use Rattle.desk.specs.declared.status.UsageFault.TheVariants.{Words, NoFile}
@@ -31,12 +31,13 @@ pub record IsChecked (files : Files) (command : Option Command) (verdict : Verdi
   pub read : IsRead files command bytes
   pub no_plan_is_cheaper : NoPlanIsCheaperIn bytes verdict
 
--- the command is `check` of a text that is refused so
+-- the command is `check` of a text that is no valid certificate, and is refused so
 pub record IsRefused (files : Files) (command : Option Command) (fault : RefusedText) : Type 0 where
   pub bytes : List ℕ
   pub read : IsRead files command bytes
   pub with : IsRefusedWith bytes fault
   pub not_for_memory : fault ≢ refused.NoMemory
+  pub invalid : IsNoCertificate bytes
 
 -- the command is `check` of a file that is not there
 pub record IsMissing (files : Files) (command : Option Command) (path : List ℕ) : Type 0 where

@@ -30,7 +30,7 @@ use std::alloc::Global;
 ///
 /// The first that applies, in this order: `Usage` where the words are no command or the file is not
 /// there, `ReadFault` where the folder failed, `Range` where the file is longer than its limit,
-/// `Refused` where its text is refused, `WriteFault` where `out` failed, else `Done`.
+/// `Refused` where its text is no valid certificate, `WriteFault` where `out` failed, else `Done`.
 /// `NoMemory` may come in place of any.
 pub fn run<D: Folder, O: Sink, E: Sink>(
     alloc: Global,
