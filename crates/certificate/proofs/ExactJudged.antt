@@ -29,49 +29,9 @@ use Rattle.certificate.specs.LineFaults.{refused_if, range_faults, arc_refusal, 
 use Rattle.certificate.specs.Stops.{refusal_of}
 use Rattle.certificate.proofs.Readers.{bind_ok, done, failed, ok_is}
 use Rattle.certificate.proofs.Exact.{bind_err}
-use Rattle.certificate.proofs.ExactLines.{number_shape, literal_shape, arc_shape, shape_at}
-
--- ---- the reading of a kind of line
-
-abbrev pub reader_at : Kind → DraftData → List ℕ → Result (List ℕ) Fault
-reader_at Kind.Title d bytes = literal_at title bytes
-reader_at Kind.Nodes d bytes = rest_of (number_line_at (codes "nodes") limit.Nodes bytes)
-reader_at Kind.Arcs d bytes = rest_of (number_line_at (codes "arcs") limit.Arcs bytes)
-reader_at Kind.K d bytes = rest_of (number_line_at (codes "k") limit.K bytes)
-reader_at Kind.Destination d bytes = rest_of (destination_line_at d.nodes bytes)
-reader_at Kind.Arc d bytes = rest_of (arc_line_at d.nodes (tail_before (network_so_far d) (length d.arcs)) (length d.arcs) bytes)
-reader_at Kind.Demand d bytes = rest_of (demand_line_at false d.units bytes)
-reader_at Kind.NoDemand d bytes = rest_of (demand_line_at true d.units bytes)
-reader_at Kind.Label d bytes = rest_of (number_line_at (codes "u") limit.Label bytes)
-reader_at Kind.Volume d bytes = rest_of (number_line_at (codes "v") limit.Volume bytes)
-reader_at Kind.Wait d bytes = rest_of (number_line_at (codes "q") limit.Wait bytes)
-reader_at Kind.End d bytes = literal_at last_line bytes
-reader_at Kind.Nothing d bytes = Err (fault.Stop (length bytes))
-
-choose : (d : DraftData) (bytes : List ℕ) (b : Bool) (x y : Result (List ℕ) Fault) (k l : Kind) → x ≡ reader_at k d bytes → y ≡ reader_at l d bytes → cond b x y ≡ reader_at (cond b k l) d bytes
-choose d bytes true x y k l p q = p
-choose d bytes false x y k l p q = q
-
-demand_is : (d : DraftData) (bytes : List ℕ) (b : Bool) → rest_of (demand_line_at b d.units bytes) ≡ reader_at (cond b Kind.NoDemand Kind.Demand) d bytes
-demand_is d bytes true = refl
-demand_is d bytes false = refl
-
-row_is : (d : DraftData) (bytes : List ℕ) → row_at d bytes ≡ reader_at (row_kind d) d bytes
-row_is d bytes =
-    choose d bytes (nat_lt (length d.arcs) d.arc_count) _ _ _ _ refl
-    (choose d bytes (nat_lt (length d.demand) d.nodes) _ _ _ _ (demand_is d bytes (length d.demand == d.destination))
-    (choose d bytes (nat_lt (length d.labels) d.nodes) _ _ _ _ refl
-    (choose d bytes (nat_lt (length d.volumes) d.arc_count) _ _ _ _ refl
-    (choose d bytes (nat_lt (length d.waits) d.nodes) _ _ _ _ refl refl))))
-
-pub line_is : (s : Stage) (d : DraftData) (bytes : List ℕ) → line_of s d bytes ≡ reader_at (kind_at s d) d bytes
-line_is stage.Title d bytes = refl
-line_is stage.Nodes d bytes = refl
-line_is stage.Arcs d bytes = refl
-line_is stage.K d bytes = refl
-line_is stage.Destination d bytes = refl
-line_is stage.Rows d bytes = row_is d bytes
-line_is stage.Done d bytes = refl
+use Rattle.certificate.proofs.ExactArcs.{arc_shape}
+use Rattle.certificate.proofs.ExactLines.{number_shape, literal_shape, shape_at}
+use Rattle.certificate.proofs.KindReaders.{reader_at}
 
 -- ---- what is judged
 
@@ -143,13 +103,13 @@ range_agrees limit g n is = elim (leb_tells n g) [
 node_agrees : (nodes n : ℕ) → Agrees (nat_lt n nodes) (fault.Arc (net_fault.NodeOutside None n)) (refused_if (nat_le nodes n) (refused.Arc (net_fault.NodeOutside None n)))
 node_agrees nodes n = elim (leb_tells nodes n) [
   | inl w ↦ record {
-      right = λ e. absurd (let k : nat_lt n nodes ≡ false = le-ltb n nodes w.1 in cc);
-      wrong = λ e size. (let k : nat_le nodes n ≡ true = w.0 in rw k refl);
-    }
+    right = λ e. absurd (let k : nat_lt n nodes ≡ false = le-ltb n nodes w.1 in cc);
+    wrong = λ e size. (let k : nat_le nodes n ≡ true = w.0 in rw k refl);
+  }
   | inr w ↦ record {
-      right = λ e. (let k : nat_le nodes n ≡ false = w.0 in rw k refl);
-      wrong = λ e. absurd (let past = w.1 in let k : nat_lt n nodes ≡ true = lt-ltb n nodes (omega arith) in cc);
-    }
+    right = λ e. (let k : nat_le nodes n ≡ false = w.0 in rw k refl);
+    wrong = λ e. absurd (let past = w.1 in let k : nat_lt n nodes ≡ true = lt-ltb n nodes (omega arith) in cc);
+  }
 ]
 
 -- ---- arcs

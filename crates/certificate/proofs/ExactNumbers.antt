@@ -27,9 +27,9 @@ byte_err c [] f e = record { says = cc; other = λ b bs h. absurd cc }
 byte_err c (x ∷ xs) f e = elim (chosen (x == c) (Ok xs) (Err (fault.Stop (length (x ∷ xs)))) (Err f) e) [
   | inl w ↦ absurd (let k : done xs ≡ Err f = w.1 in cc)
   | inr w ↦ record {
-      says = (let k : failed {A = List ℕ} (fault.Stop (length (x ∷ xs))) ≡ Err f = w.1 in cc);
-      other = λ b bs h. (let same : x ≡ b = cc in ap (λ y. y == c) (sym same) ∙ w.0);
-    }
+    says = (let k : failed {A = List ℕ} (fault.Stop (length (x ∷ xs))) ≡ Err f = w.1 in cc);
+    other = λ b bs h. (let same : x ≡ b = cc in ap (λ y. y == c) (sym same) ∙ w.0);
+  }
 ]
 
 -- no number begins so
@@ -42,16 +42,16 @@ digits_err [] f e = record { says = cc; local = λ byte left other h. absurd cc 
 digits_err (b ∷ bs) f e = elim (chosen (b == 48) (done (0, bs)) (cond (is_digit b) (Ok (digits_on (b - 48) bs)) (Err (fault.Stop (length (b ∷ bs))))) (Err f) e) [
   | inl w ↦ absurd (let k : done (0, bs) ≡ Err f = w.1 in cc)
   | inr w ↦ elim (chosen (is_digit b) (done (digits_on (b - 48) bs)) (Err (fault.Stop (length (b ∷ bs)))) (Err f) w.1) [
-      | inl v ↦ absurd (let k : done (digits_on (b - 48) bs) ≡ Err f = v.1 in cc)
-      | inr v ↦ record {
-          says = (let k : failed {A = ℕ × List ℕ} (fault.Stop (length (b ∷ bs))) ≡ Err f = v.1 in cc);
-          local = λ byte left other h.
-              let same : b ≡ byte = cc in
-              let not_zero : byte == 48 ≡ false = ap (λ y. y == 48) (sym same) ∙ w.0 in
-              let not_digit : is_digit byte ≡ false = ap is_digit (sym same) ∙ v.0 in
-              (fault.Stop (length (byte ∷ other)), rw (not_zero, not_digit) refl);
-        }
-    ]
+    | inl v ↦ absurd (let k : done (digits_on (b - 48) bs) ≡ Err f = v.1 in cc)
+    | inr v ↦ record {
+      says = (let k : failed {A = ℕ × List ℕ} (fault.Stop (length (b ∷ bs))) ≡ Err f = v.1 in cc);
+      local = λ byte left other h.
+          let same : b ≡ byte = cc in
+          let not_zero : byte == 48 ≡ false = ap (λ y. y == 48) (sym same) ∙ w.0 in
+          let not_digit : is_digit byte ≡ false = ap is_digit (sym same) ∙ v.0 in
+          (fault.Stop (length (byte ∷ other)), rw (not_zero, not_digit) refl);
+    }
+  ]
 ]
 
 -- a number and the byte that ends it
@@ -71,20 +71,35 @@ number_exact end ends = record {
       ap (number_at end) (append_assoc (decimal n) (end ∷ []) rest) ∙ rw (d, byte_again end rest) refl;
   stops = λ bytes f e. elim (bind_err (digits_at bytes) on f e) [
     | inl w ↦ (let d = digits_err bytes f w in record {
-        before = []; after = bytes; parts = refl; says = d.says; value = 0; fits = omega arith; rest = decimal 0 ++ end ∷ []; whole = refl;
-        more = simp length-append (omega arith);
-        local = λ byte left other h. (let g = d.local byte left other h in (g.0, rw g.1 refl));
-      })
+      before = [];
+      after = bytes;
+      parts = refl;
+      says = d.says;
+      value = 0;
+      fits = omega arith;
+      rest = decimal 0 ++ end ∷ [];
+      whole = refl;
+      more = simp length-append (omega arith);
+      local = λ byte left other h. (let g = d.local byte left other h in (g.0, rw g.1 refl));
+    })
     | inr w ↦ elim (bind_err (byte_at end w.0.1) (λ r. done (w.0.0, r)) f w.2) [
-        | inl v ↦ (let t = digits_taken bytes w.0 w.1 in let b = byte_err end w.0.1 f v in record {
-            before = decimal w.0.0; after = w.0.1; parts = sym t.parts; says = b.says; value = w.0.0; fits = t.small; rest = end ∷ []; whole = refl; more = omega arith;
-            local = λ byte left other h.
-                let d = t.again byte left other h in
-                let off : byte == end ≡ false = b.other byte left h in
-                (fault.Stop (length (byte ∷ other)), rw (d, off) refl);
-          })
-        | inr v ↦ absurd (let k : done (w.0.0, v.0) ≡ Err f = v.2 in cc)
-      ]
+      | inl v ↦ (let t = digits_taken bytes w.0 w.1 in let b = byte_err end w.0.1 f v in record {
+        before = decimal w.0.0;
+        after = w.0.1;
+        parts = sym t.parts;
+        says = b.says;
+        value = w.0.0;
+        fits = t.small;
+        rest = end ∷ [];
+        whole = refl;
+        more = omega arith;
+        local = λ byte left other h.
+            let d = t.again byte left other h in
+            let off : byte == end ≡ false = b.other byte left h in
+            (fault.Stop (length (byte ∷ other)), rw (d, off) refl);
+      })
+      | inr v ↦ absurd (let k : done (w.0.0, v.0) ≡ Err f = v.2 in cc)
+    ]
   ];
 }
   where
@@ -143,20 +158,43 @@ weight_exact = record { some = (None, tt); takes = takes; again = again; stops =
 
     stops : (bytes : List ℕ) (f : Fault) → weight_at bytes ≡ Err f → StopsIn weight_at (λ w. weight_text w ++ line_end) (λ w. IfSome w IsShort) bytes f
     stops [] f e = record {
-      before = []; after = []; parts = refl; says = cc; value = None; fits = tt; rest = weight_text None ++ line_end; whole = refl; more = omega arith;
+      before = [];
+      after = [];
+      parts = refl;
+      says = cc;
+      value = None;
+      fits = tt;
+      rest = weight_text None ++ line_end;
+      whole = refl;
+      more = omega arith;
       local = λ byte left other h. absurd cc;
     }
     stops (b ∷ bs) f e = elim (chosen (b == 45) (byte_at 10 bs >>= λ r. Ok (None, r)) (number_at 10 (b ∷ bs) >>= λ n. Ok (Some n.0, n.1)) (Err f) e) [
       | inl v ↦ (let s = free.stops bs f v.1 in record {
-          before = 45 ∷ s.before; after = s.after; parts = ap (λ xs. 45 ∷ xs) s.parts ∙ ap (λ c. c ∷ bs) (sym (eqb-true b 45 v.0)); says = s.says; value = None; fits = tt; rest = s.rest;
-          whole = ap (λ xs. 45 ∷ xs) s.whole; more = s.more;
-          local = s.local;
-        })
+        before = 45 ∷ s.before;
+        after = s.after;
+        parts = ap (λ xs. 45 ∷ xs) s.parts ∙ ap (λ c. c ∷ bs) (sym (eqb-true b 45 v.0));
+        says = s.says;
+        value = None;
+        fits = tt;
+        rest = s.rest;
+        whole = ap (λ xs. 45 ∷ xs) s.whole;
+        more = s.more;
+        local = s.local;
+      })
       | inr v ↦ elim (bind_err (number_at 10 (b ∷ bs)) (λ n. done (Some n.0, n.1)) f v.1) [
-          | inl u ↦ (let s = (number_exact 10 refl).stops (b ∷ bs) f u in record {
-              before = s.before; after = s.after; parts = s.parts; says = s.says; value = Some s.value; fits = s.fits; rest = s.rest; whole = s.whole; more = s.more;
-              local = λ byte left other h. weight_err s.before s.after b bs byte left other s.parts v.0 h (s.local byte left other h);
-            })
-          | inr u ↦ absurd (let k : done (Some u.0.0, u.0.1) ≡ Err f = u.2 in cc)
-        ]
+        | inl u ↦ (let s = (number_exact 10 refl).stops (b ∷ bs) f u in record {
+          before = s.before;
+          after = s.after;
+          parts = s.parts;
+          says = s.says;
+          value = Some s.value;
+          fits = s.fits;
+          rest = s.rest;
+          whole = s.whole;
+          more = s.more;
+          local = λ byte left other h. weight_err s.before s.after b bs byte left other s.parts v.0 h (s.local byte left other h);
+        })
+        | inr u ↦ absurd (let k : done (Some u.0.0, u.0.1) ≡ Err f = u.2 in cc)
+      ]
     ]

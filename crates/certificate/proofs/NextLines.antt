@@ -95,8 +95,8 @@ demand_next d c rest f rows a lt =
       line = Line.Demand z;
       next = next_of d (cond (length d.demand == d.destination) Kind.NoDemand Kind.Demand) (Line.Demand z) (kind_demand d rows a lt)
           (of z (middle IsShort d.demand n.others c.demand z 0 n.all f.all_short.demand) (length d.demand == d.destination) refl (λ here.
-              let same : length d.demand ≡ c.destination = here ∙ f.header.destination in
-              sym (get_or_at d.demand z n.others 0 (length d.demand) refl) ∙ ap (λ xs. get_or xs (length d.demand) 0) (sym n.all) ∙ ap (λ i. get_or c.demand i 0) same ∙ f.lines.no_demand_at_destination));
+          let same : length d.demand ≡ c.destination = here ∙ f.header.destination in
+          sym (get_or_at d.demand z n.others 0 (length d.demand) refl) ∙ ap (λ xs. get_or xs (length d.demand) 0) (sym n.all) ∙ ap (λ i. get_or c.demand i 0) same ∙ f.lines.no_demand_at_destination));
       good = in_range limit.Units (sum d.demand + z) low;
       more = flat_map (number_line (codes "g")) n.others ++ from_labels c;
       bytes = sym only ∙ n.bytes;
@@ -137,24 +137,24 @@ pub row_next : (d : DraftData) (c : Certificate) (rest : List ℕ) → IsFront d
 row_next d c rest f rows = elim (cases_lt (length d.arcs) d.arc_count) [
   | inl lt ↦ arc_next d c rest f rows lt
   | inr a ↦ elim (cases_lt (length d.demand) d.nodes) [
-      | inl lt ↦ demand_next d c rest f rows a lt
-      | inr g ↦ elim (cases_lt (length d.labels) d.nodes) [
-          | inl lt ↦ label_next d c rest f rows a g lt
-          | inr u ↦ elim (cases_lt (length d.volumes) d.arc_count) [
-              | inl lt ↦ volume_next d c rest f rows a g u lt
-              | inr v ↦ elim (cases_lt (length d.waits) d.nodes) [
-                  | inl lt ↦ wait_next d c rest f rows a g u v lt
-                  | inr q ↦ (
-                      let order = f.rows.order in
-                      record {
-                        line = Line.End;
-                        next = next_of d Kind.End Line.End (kind_end d rows a g u v q) refl;
-                        good = refl;
-                        more = [];
-                        bytes = (to_end d c rest f (full_of d f.rows (omega arith))).1 ∙ sym (append-nil last_line);
-                      })
-                ]
-            ]
+    | inl lt ↦ demand_next d c rest f rows a lt
+    | inr g ↦ elim (cases_lt (length d.labels) d.nodes) [
+      | inl lt ↦ label_next d c rest f rows a g lt
+      | inr u ↦ elim (cases_lt (length d.volumes) d.arc_count) [
+        | inl lt ↦ volume_next d c rest f rows a g u lt
+        | inr v ↦ elim (cases_lt (length d.waits) d.nodes) [
+          | inl lt ↦ wait_next d c rest f rows a g u v lt
+          | inr q ↦ (
+              let order = f.rows.order in
+              record {
+                line = Line.End;
+                next = next_of d Kind.End Line.End (kind_end d rows a g u v q) refl;
+                good = refl;
+                more = [];
+                bytes = (to_end d c rest f (full_of d f.rows (omega arith))).1 ∙ sym (append-nil last_line);
+              })
         ]
+      ]
     ]
+  ]
 ]

@@ -1,4 +1,4 @@
-use Rattle.std.proofs.Common.{◌≡◌, ◌+◌, ◌<◌, length, Ok, ap, ◌∙◌, subst, sym}
+use Rattle.std.proofs.Common.{◌≡◌, ◌<◌, length, Ok, ap, ◌∙◌, subst, sym}
 use Rattle.std.specs.Prelude.{◌==◌}
 use Rattle.certificate.specs.Lines.{demand_line_at}
 use Rattle.certificate.specs.declared.stage.Stage.TheVariants as stage
