@@ -1,22 +1,19 @@
 -- Each kind of line is read exactly.
-use Rattle.std.proofs.Common.{◌≡◌, ℕ, ◌<◌, List, [], ◌∷◌, ◌++◌, length, Option, None, Some, Result, Ok, Err, refl, sym, ap, subst, ◌∙◌, append_assoc, arith, IfSome}
+use Rattle.std.proofs.Common.{◌≡◌, ℕ, List, [], ◌∷◌, ◌++◌, length, Result, Ok, Err, refl, sym, ap, ◌∙◌, append_assoc, arith}
 use Rattle.std.specs.Prelude.{codes}
 use Rattle.std.specs.Fmt.{decimal}
 use Rattle.std.proofs.lemmas.Fmt.{decimal_digit}
 use Rattle.std.proofs.lemmas.List.{append-nil}
 use Rattle.definitions.specs.Decimal.{line_end, number_line}
-use Rattle.definitions.specs.declared.arc.NetArc.{NetArc}
-use Rattle.lp_model.specs.declared.wide_arc.WideArc.{WideArc}
-use Rattle.lp_model.specs.Wide.{arc_of_wide}
 use Rattle.certificate.specs.declared.fault.Fault.{Fault}
 use Rattle.certificate.specs.declared.fault.Fault.TheVariants as fault
 use Rattle.certificate.specs.Bytes.{◌>>=◌, byte_at, literal_at, number_at}
-use Rattle.certificate.specs.Lines.{word_at, weight_at, wide_arc_at}
-use Rattle.certificate.specs.Spelling.{title, last_line, weight_text, arc_line}
-use Rattle.certificate.specs.Grammar.{Line, line_text, Kind, IsShort, HasNumber, HasArc, IsOf}
+use Rattle.certificate.specs.Lines.{word_at}
+use Rattle.certificate.specs.Spelling.{title, last_line}
+use Rattle.certificate.specs.Grammar.{Line, line_text, Kind, IsShort, HasNumber, IsOf}
 use Rattle.certificate.proofs.Exact.{IsExact, same_text, value_exact, after_byte, after_literal}
-use Rattle.certificate.proofs.ExactNext.{Joins, next_exact}
-use Rattle.certificate.proofs.ExactNumbers.{number_exact, weight_exact}
+use Rattle.certificate.proofs.ExactNext.{next_exact}
+use Rattle.certificate.proofs.ExactNumbers.{number_exact}
 use Rattle.certificate.proofs.ExactArcs.{arc_shape, arc_shape_exact}
 
 -- ---- lines of a word and a number

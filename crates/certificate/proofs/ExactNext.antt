@@ -1,12 +1,8 @@
 -- One exact reader after the other is exact.
-use Rattle.std.proofs.Common.{◌≡◌, ℕ, ◌+◌, ◌<◌, Bool, true, false, cond, List, [], ◌∷◌, ◌++◌, length, Result, Ok, Err, refl, sym, ap, subst, ◌∙◌, append_assoc, arith, length-append, ◌⊎◌, inl, inr}
-use Rattle.std.specs.Bool.{◌==◌}
-use Rattle.std.proofs.lemmas.Bool.{eqb-true, eq-eqb}
+use Rattle.std.proofs.Common.{◌≡◌, ℕ, ◌<◌, List, ◌∷◌, ◌++◌, length, Result, Ok, Err, refl, sym, ap, ◌∙◌, append_assoc, arith, length-append, inl, inr}
 use Rattle.certificate.specs.declared.fault.Fault.{Fault}
-use Rattle.certificate.specs.declared.fault.Fault.TheVariants as fault
-use Rattle.certificate.specs.Bytes.{◌>>=◌, byte_at, literal_at}
-use Rattle.certificate.proofs.Readers.{bind_ok, done, failed, ok_is, chosen}
-use Rattle.certificate.proofs.Taken.{byte_taken}
+use Rattle.certificate.specs.Bytes.{◌>>=◌}
+use Rattle.certificate.proofs.Readers.{bind_ok}
 use Rattle.certificate.proofs.Exact.{StopsIn, IsExact, bind_err}
 
 -- what is read first and what is read then make what fits, and all that fits is made so

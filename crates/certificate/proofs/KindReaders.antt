@@ -1,34 +1,18 @@
 -- The reading of the next line, by its kind.
-use Rattle.std.proofs.Common.{◌≡◌, ℕ, ◌+◌, ◌<◌, ◌≤◌, ◌==◌, Bool, true, false, cond, List, [], ◌∷◌, ◌++◌, length, Option, None, Some, Result, Ok, Err, refl, sym, ap, subst, ◌∙◌, arith, ◌⊎◌, inl, inr}
-use Rattle.std.specs.Prelude.{codes, slice_get, nat_lt, nat_le, map, sum}
-use Rattle.std.proofs.lemmas.Bool.{le-ltb, lt-ltb}
-use Rattle.std.proofs.lemmas.Bool.Decides.{leb_tells}
-use Rattle.definitions.specs.declared.arc.NetArc.{NetArc}
-use Rattle.definitions.specs.declared.limits.TheConstants.{UNIT_LIMIT}
-use Rattle.definitions.specs.Decimal.{line_end}
-use Rattle.lp_model.specs.declared.fault.NetFault.{NetFault}
-use Rattle.lp_model.specs.declared.fault.NetFault.TheVariants as net_fault
-use Rattle.lp_model.specs.Faults.{arc_faults, tail_before}
-use Rattle.lp_model.specs.Wide.{arc_of_wide}
-use Rattle.certificate.specs.declared.refused.Limit.{Limit}
+use Rattle.std.proofs.Common.{◌≡◌, ℕ, ◌==◌, Bool, true, false, cond, List, length, Result, Err, refl}
+use Rattle.std.specs.Prelude.{codes, nat_lt}
+use Rattle.lp_model.specs.Faults.{tail_before}
 use Rattle.certificate.specs.declared.refused.Limit.TheVariants as limit
-use Rattle.certificate.specs.declared.refused.Refused.{Refused}
-use Rattle.certificate.specs.declared.refused.Refused.TheVariants as refused
 use Rattle.certificate.specs.declared.fault.Fault.{Fault}
 use Rattle.certificate.specs.declared.fault.Fault.TheVariants as fault
 use Rattle.certificate.specs.declared.stage.Stage.{Stage}
 use Rattle.certificate.specs.declared.stage.Stage.TheVariants as stage
-use Rattle.certificate.specs.Bytes.{◌>>=◌, literal_at}
-use Rattle.certificate.specs.Limits.{greatest}
-use Rattle.certificate.specs.Lines.{word_at, number_line_at, destination_line_at, demand_line_at, wide_arc_at, arc_line_at, unless, fault_of}
+use Rattle.certificate.specs.Bytes.{literal_at}
+use Rattle.certificate.specs.Lines.{number_line_at, destination_line_at, demand_line_at, arc_line_at}
 use Rattle.certificate.specs.Spelling.{title, last_line}
 use Rattle.certificate.specs.Draft.{DraftData, network_so_far}
 use Rattle.certificate.specs.NextLine.{rest_of, row_at, line_of}
-use Rattle.certificate.specs.Grammar.{Line, Kind, row_kind, kind_at}
-use Rattle.certificate.specs.LineFaults.{refused_if, range_faults, arc_refusal, line_faults}
-use Rattle.certificate.specs.Stops.{refusal_of}
-use Rattle.certificate.proofs.Readers.{bind_ok, done, failed, ok_is}
-use Rattle.certificate.proofs.Exact.{bind_err}
+use Rattle.certificate.specs.Grammar.{Kind, row_kind, kind_at}
 
 abbrev pub reader_at : Kind → DraftData → List ℕ → Result (List ℕ) Fault
 reader_at Kind.Title d bytes = literal_at title bytes

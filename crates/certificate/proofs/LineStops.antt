@@ -16,10 +16,10 @@ use Rattle.certificate.specs.LineFaults.{line_faults, StopsAfter, IsLineFault}
 use Rattle.certificate.specs.Stops.{refusal_of, StopsWith}
 use Rattle.certificate.specs.Refusals.{HasFaultyLine}
 use Rattle.certificate.proofs.Readers.{done, failed}
-use Rattle.certificate.proofs.Exact.{IsErr, StopsIn, IsExact}
+use Rattle.certificate.proofs.Exact.{IsErr, IsExact}
 use Rattle.certificate.proofs.ExactLines.{shape_at, shape_exact}
 use Rattle.certificate.proofs.KindReaders.{reader_at, line_is}
-use Rattle.certificate.proofs.ExactJudged.{IsSaid, Judged, HasUnits, kind_judged}
+use Rattle.certificate.proofs.ExactJudged.{HasUnits, kind_judged}
 
 -- ---- what a draft has
 
