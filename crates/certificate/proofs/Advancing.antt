@@ -1,33 +1,27 @@
 -- Where lines so far begin the text of a certificate with good lines, a good line comes next.
-use Rattle.std.proofs.Common.{◌≡◌, ℕ, zero, suc, ◌+◌, ◌<◌, ◌≤◌, ◌==◌, Bool, true, false, cond, List, [], ◌∷◌, ◌++◌, length, length-append, rules, Option, None, Some, refl, sym, ap, subst, ◌∙◌, append_assoc, arith, All, IsTrue, ◌⊎◌, inl, inr, get_or}
-use Rattle.std.specs.Prelude.{codes, sum, sum_by, map, nat_lt, nat_le, is_some, unwrap_or, slice_index}
+use Rattle.std.proofs.Common.{◌≡◌, ℕ, zero, suc, ◌+◌, ◌<◌, ◌≤◌, ◌==◌, false, List, [], ◌∷◌, ◌++◌, length, length-append, rules, Option, None, Some, refl, sym, ap, subst, ◌∙◌, arith, All, IsTrue, inl, inr}
+use Rattle.std.specs.Prelude.{codes, map, is_some, unwrap_or}
 use Rattle.std.specs.List.{flat_map}
-use Rattle.std.proofs.lemmas.Bool.{lt-ltb, le-ltb, lt-leb, cases_lt, eqb-true}
+use Rattle.std.proofs.lemmas.Bool.{lt-ltb, le-ltb, lt-leb}
 use Rattle.std.proofs.lemmas.Bool.Decides.{eqb_tells}
-use Rattle.std.proofs.lemmas.List.{append-nil, get_or_at, nil_from_length}
+use Rattle.std.proofs.lemmas.List.{get_or_at, nil_from_length}
 use Rattle.std.proofs.lemmas.List.Elements.{All-get_or}
-use Rattle.std.proofs.lemmas.List.Sums.{sum_by-append, sum_by-cons}
 use Rattle.definitions.specs.declared.arc.NetArc.{NetArc}
-use Rattle.definitions.specs.declared.limits.TheConstants.{COST_LIMIT, WEIGHT_LIMIT, UNIT_LIMIT}
+use Rattle.definitions.specs.declared.limits.TheConstants.{COST_LIMIT, WEIGHT_LIMIT}
 use Rattle.definitions.specs.Decimal.{number_line}
 use Rattle.definitions.specs.Network.{NetworkData, IsNetwork, arc_at, no_arc, tail_of, head_of, cost_of}
-use Rattle.lp_model.specs.declared.fault.NetFault.TheVariants as net_fault
 use Rattle.lp_model.specs.Faults.{arc_faults, weight_faults, tail_before}
 use Rattle.certificate.specs.declared.refused.Limit.{Limit}
-use Rattle.certificate.specs.declared.refused.Limit.TheVariants as limit
-use Rattle.certificate.specs.declared.refused.Refused.{Refused}
-use Rattle.certificate.specs.declared.stage.Stage.{Stage}
 use Rattle.certificate.specs.declared.stage.Stage.TheVariants as stage
 use Rattle.certificate.specs.Limits.{greatest}
-use Rattle.certificate.specs.Spelling.{Certificate, network_of, last_line, arc_line}
-use Rattle.certificate.specs.Draft.{DraftData, network_so_far}
-use Rattle.certificate.specs.Kept.{HasRows}
-use Rattle.certificate.specs.Grammar.{Line, line_text, Kind, row_kind, kind_at, IsShort, HasNumber, IsOf, IsNext}
+use Rattle.certificate.specs.Spelling.{Certificate, network_of, arc_line}
+use Rattle.certificate.specs.Draft.{DraftData}
+use Rattle.certificate.specs.Grammar.{Line, line_text, Kind, kind_at, IsOf, IsNext}
 use Rattle.certificate.specs.LineFaults.{range_faults, arc_refusal, line_faults}
 use Rattle.certificate.proofs.Keeping.{net_of, same_before}
-use Rattle.certificate.proofs.Fronts.{NextIs, HasShortNumbers, has_arc, number_peels, arc_peels, list_next}
-use Rattle.certificate.proofs.FrontHeader.{from_waits, from_volumes, from_labels, from_demand}
-use Rattle.certificate.proofs.FrontRows.{IsFront, IsFull, demand_and, labels_and, volumes_and, waits_and, to_demand, to_labels, to_volumes, to_waits, to_end}
+use Rattle.certificate.proofs.Fronts.{HasShortNumbers, has_arc, arc_peels, list_next}
+use Rattle.certificate.proofs.FrontHeader.{from_demand}
+use Rattle.certificate.proofs.FrontRows.{IsFront, demand_and}
 
 -- a good line comes next
 pub record Advances (d : DraftData) (rest : List ℕ) : Type 0 where

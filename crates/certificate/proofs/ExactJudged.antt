@@ -1,5 +1,5 @@
 -- A line whose shape is right is judged by its numbers.
-use Rattle.std.proofs.Common.{◌≡◌, ℕ, ◌+◌, ◌<◌, ◌≤◌, ◌==◌, Bool, true, false, cond, List, [], ◌∷◌, ◌++◌, length, Option, None, Some, Result, Ok, Err, refl, sym, ap, subst, ◌∙◌, arith, ◌⊎◌, inl, inr}
+use Rattle.std.proofs.Common.{◌≡◌, ℕ, ◌+◌, ◌<◌, ◌≤◌, Bool, true, false, cond, List, [], ◌∷◌, ◌++◌, length, None, Some, Result, Ok, Err, refl, sym, ap, subst, ◌∙◌, arith, ◌⊎◌, inl, inr}
 use Rattle.std.specs.Prelude.{codes, slice_get, nat_lt, nat_le, map, sum}
 use Rattle.std.proofs.lemmas.Bool.{le-ltb, lt-ltb}
 use Rattle.std.proofs.lemmas.Bool.Decides.{leb_tells}
@@ -16,62 +16,19 @@ use Rattle.certificate.specs.declared.refused.Refused.{Refused}
 use Rattle.certificate.specs.declared.refused.Refused.TheVariants as refused
 use Rattle.certificate.specs.declared.fault.Fault.{Fault}
 use Rattle.certificate.specs.declared.fault.Fault.TheVariants as fault
-use Rattle.certificate.specs.declared.stage.Stage.{Stage}
-use Rattle.certificate.specs.declared.stage.Stage.TheVariants as stage
 use Rattle.certificate.specs.Bytes.{◌>>=◌, literal_at}
 use Rattle.certificate.specs.Limits.{greatest}
-use Rattle.certificate.specs.Lines.{word_at, number_line_at, destination_line_at, demand_line_at, wide_arc_at, arc_line_at, unless, fault_of}
+use Rattle.certificate.specs.Lines.{word_at, wide_arc_at, unless, fault_of}
 use Rattle.certificate.specs.Spelling.{title, last_line}
 use Rattle.certificate.specs.Draft.{DraftData, network_so_far}
-use Rattle.certificate.specs.NextLine.{rest_of, row_at, line_of}
-use Rattle.certificate.specs.Grammar.{Line, Kind, row_kind, kind_at}
+use Rattle.certificate.specs.Grammar.{Line, Kind}
 use Rattle.certificate.specs.LineFaults.{refused_if, range_faults, arc_refusal, line_faults}
 use Rattle.certificate.specs.Stops.{refusal_of}
 use Rattle.certificate.proofs.Readers.{bind_ok, done, failed, ok_is}
 use Rattle.certificate.proofs.Exact.{bind_err}
-use Rattle.certificate.proofs.ExactLines.{number_shape, literal_shape, arc_shape, shape_at}
-
--- ---- the reading of a kind of line
-
-abbrev pub reader_at : Kind → DraftData → List ℕ → Result (List ℕ) Fault
-reader_at Kind.Title d bytes = literal_at title bytes
-reader_at Kind.Nodes d bytes = rest_of (number_line_at (codes "nodes") limit.Nodes bytes)
-reader_at Kind.Arcs d bytes = rest_of (number_line_at (codes "arcs") limit.Arcs bytes)
-reader_at Kind.K d bytes = rest_of (number_line_at (codes "k") limit.K bytes)
-reader_at Kind.Destination d bytes = rest_of (destination_line_at d.nodes bytes)
-reader_at Kind.Arc d bytes = rest_of (arc_line_at d.nodes (tail_before (network_so_far d) (length d.arcs)) (length d.arcs) bytes)
-reader_at Kind.Demand d bytes = rest_of (demand_line_at false d.units bytes)
-reader_at Kind.NoDemand d bytes = rest_of (demand_line_at true d.units bytes)
-reader_at Kind.Label d bytes = rest_of (number_line_at (codes "u") limit.Label bytes)
-reader_at Kind.Volume d bytes = rest_of (number_line_at (codes "v") limit.Volume bytes)
-reader_at Kind.Wait d bytes = rest_of (number_line_at (codes "q") limit.Wait bytes)
-reader_at Kind.End d bytes = literal_at last_line bytes
-reader_at Kind.Nothing d bytes = Err (fault.Stop (length bytes))
-
-choose : (d : DraftData) (bytes : List ℕ) (b : Bool) (x y : Result (List ℕ) Fault) (k l : Kind) → x ≡ reader_at k d bytes → y ≡ reader_at l d bytes → cond b x y ≡ reader_at (cond b k l) d bytes
-choose d bytes true x y k l p q = p
-choose d bytes false x y k l p q = q
-
-demand_is : (d : DraftData) (bytes : List ℕ) (b : Bool) → rest_of (demand_line_at b d.units bytes) ≡ reader_at (cond b Kind.NoDemand Kind.Demand) d bytes
-demand_is d bytes true = refl
-demand_is d bytes false = refl
-
-row_is : (d : DraftData) (bytes : List ℕ) → row_at d bytes ≡ reader_at (row_kind d) d bytes
-row_is d bytes =
-    choose d bytes (nat_lt (length d.arcs) d.arc_count) _ _ _ _ refl
-    (choose d bytes (nat_lt (length d.demand) d.nodes) _ _ _ _ (demand_is d bytes (length d.demand == d.destination))
-    (choose d bytes (nat_lt (length d.labels) d.nodes) _ _ _ _ refl
-    (choose d bytes (nat_lt (length d.volumes) d.arc_count) _ _ _ _ refl
-    (choose d bytes (nat_lt (length d.waits) d.nodes) _ _ _ _ refl refl))))
-
-pub line_is : (s : Stage) (d : DraftData) (bytes : List ℕ) → line_of s d bytes ≡ reader_at (kind_at s d) d bytes
-line_is stage.Title d bytes = refl
-line_is stage.Nodes d bytes = refl
-line_is stage.Arcs d bytes = refl
-line_is stage.K d bytes = refl
-line_is stage.Destination d bytes = refl
-line_is stage.Rows d bytes = row_is d bytes
-line_is stage.Done d bytes = refl
+use Rattle.certificate.proofs.ExactArcs.{arc_shape}
+use Rattle.certificate.proofs.ExactLines.{number_shape, literal_shape, shape_at}
+use Rattle.certificate.proofs.KindReaders.{reader_at}
 
 -- ---- what is judged
 

@@ -1,13 +1,12 @@
 -- Where lines so far begin the text of a certificate, they are its first lines: the header.
-use Rattle.std.proofs.Common.{◌≡◌, ℕ, ◌+◌, ◌<◌, ◌≤◌, List, [], ◌∷◌, ◌++◌, length, Option, None, Some, refl, sym, ap, subst, ◌∙◌, append_assoc, arith, All, IfSome, IsTrue}
-use Rattle.std.specs.Prelude.{codes, sum, is_some, unwrap_or}
+use Rattle.std.proofs.Common.{◌≡◌, ℕ, ◌<◌, ◌≤◌, List, ◌++◌, length, Option, None, Some, sym, ◌∙◌, append_assoc, arith, All, IfSome}
+use Rattle.std.specs.Prelude.{codes, sum, unwrap_or}
 use Rattle.std.specs.List.{flat_map}
 use Rattle.std.proofs.lemmas.List.{append_cancel_left}
 use Rattle.std.proofs.lemmas.List.Elements.{All-weaker, All-from_get_or}
-use Rattle.definitions.specs.declared.arc.NetArc.{NetArc}
 use Rattle.definitions.specs.declared.limits.TheConstants.{UNIT_LIMIT, LABEL_LIMIT, VOLUME_LIMIT, WAIT_LIMIT, WEIGHT_LIMIT}
 use Rattle.definitions.specs.Decimal.{number_line}
-use Rattle.definitions.specs.Network.{NetworkData, IsNetwork, arc_at, no_arc, tail_of, head_of, cost_of, weight_of}
+use Rattle.definitions.specs.Network.{NetworkData, IsNetwork, arc_at, no_arc, tail_of, head_of}
 use Rattle.lp_model.proofs.FaultLemmas.{faultless as network_of_faultless}
 use Rattle.certificate.specs.Spelling.{Certificate, network_of, title, last_line, arc_line, spelling}
 use Rattle.certificate.specs.Valid.{HasGoodLines}
@@ -15,7 +14,7 @@ use Rattle.certificate.specs.Draft.{DraftData, certificate_of, network_so_far, u
 use Rattle.certificate.specs.Kept.{HasSizes, HasRows}
 use Rattle.certificate.specs.Grammar.{IsShort}
 use Rattle.certificate.proofs.Faultless.{faultless}
-use Rattle.certificate.proofs.Fronts.{Peels, number_peels, HasShortNumbers, sum_short}
+use Rattle.certificate.proofs.Fronts.{number_peels, HasShortNumbers, sum_short}
 
 -- ---- short numbers
 

@@ -1,5 +1,5 @@
 -- Where lines so far begin the text of a certificate, they are its first lines: the rows.
-use Rattle.std.proofs.Common.{◌≡◌, ℕ, ◌+◌, ◌<◌, ◌≤◌, List, [], ◌∷◌, ◌++◌, length, refl, sym, ap, subst, ◌∙◌, append_assoc, arith, All, inl, inr}
+use Rattle.std.proofs.Common.{◌≡◌, ℕ, ◌<◌, ◌≤◌, List, ◌++◌, length, sym, ◌∙◌, arith, inl, inr}
 use Rattle.std.proofs.lemmas.Bool.{cases_lt}
 use Rattle.std.specs.Prelude.{codes}
 use Rattle.std.specs.List.{flat_map}
@@ -9,8 +9,8 @@ use Rattle.certificate.specs.Valid.{HasGoodLines}
 use Rattle.certificate.specs.Draft.{DraftData, certificate_of, up_to_rows}
 use Rattle.certificate.specs.Kept.{HasSizes, HasRows}
 use Rattle.certificate.specs.Grammar.{IsShort}
-use Rattle.certificate.proofs.Fronts.{NextIs, HasShortNumbers, number_peels, arc_peels, list_next, list_whole}
-use Rattle.certificate.proofs.FrontHeader.{AreShort, short_lines, short_rows, from_waits, from_volumes, from_labels, from_demand, rows_and, SameHeader, after_header}
+use Rattle.certificate.proofs.Fronts.{HasShortNumbers, number_peels, arc_peels, list_whole}
+use Rattle.certificate.proofs.FrontHeader.{AreShort, short_lines, short_rows, from_waits, from_volumes, from_labels, from_demand, SameHeader, after_header}
 
 -- lines so far up to the rows, which begin the text of a certificate with good lines
 pub record IsFront (d : DraftData) (c : Certificate) (rest : List ℕ) : Type 0 where

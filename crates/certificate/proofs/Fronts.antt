@@ -1,6 +1,6 @@
 -- Texts that are read exactly are told apart wherever they stand, and so are lists of them.
-use Rattle.std.proofs.Common.{◌≡◌, ℕ, ◌+◌, ◌<◌, ◌≤◌, List, [], ◌∷◌, ◌++◌, length, Result, Ok, Err, refl, sym, ap, subst, ◌∙◌, append_assoc, arith, All, IfSome}
-use Rattle.std.specs.Prelude.{sum, sum_by}
+use Rattle.std.proofs.Common.{◌≡◌, ℕ, ◌+◌, ◌<◌, ◌≤◌, List, [], ◌∷◌, ◌++◌, length, Result, refl, sym, ap, ◌∙◌, append_assoc, arith, All, IfSome}
+use Rattle.std.specs.Prelude.{sum}
 use Rattle.std.specs.List.{flat_map}
 use Rattle.std.proofs.lemmas.List.Sums.{sum_by-cons}
 use Rattle.std.proofs.lemmas.List.Elements.{All-head, All-tail, All-nil, All-cons}
@@ -11,7 +11,8 @@ use Rattle.certificate.specs.Spelling.{arc_line}
 use Rattle.certificate.specs.Grammar.{Line, line_text, IsShort, HasArc}
 use Rattle.certificate.proofs.Readers.{done, ok_is}
 use Rattle.certificate.proofs.Exact.{IsExact}
-use Rattle.certificate.proofs.ExactLines.{word_exact, arc_shape_exact, arc_shape}
+use Rattle.certificate.proofs.ExactArcs.{arc_shape_exact, arc_shape}
+use Rattle.certificate.proofs.ExactLines.{word_exact}
 
 -- ---- one text
 
@@ -50,6 +51,10 @@ arc_peels = record {
 
 -- ---- many texts
 
+opened : {A : Type 0} (text : A → List ℕ) (x : A) (xs : List A) (y : A) (ys : List A) (r s : List ℕ) → flat_map text (x ∷ xs) ++ r ≡ flat_map text (y ∷ ys) ++ s →
+    text x ++ (flat_map text xs ++ r) ≡ text y ++ (flat_map text ys ++ s)
+opened text x xs y ys r s e = sym (append_assoc (text x) (flat_map text xs) r) ∙ e ∙ append_assoc (text y) (flat_map text ys) s
+
 -- the first of two lists is the front of the second, and what comes next stands first in the bytes
 pub record NextIs {A : Type 0} (text : A → List ℕ) (xs ys : List A) (r s : List ℕ) : Type 0 where
   pub next : A
@@ -62,7 +67,7 @@ pub list_next : {A : Type 0} (text : A → List ℕ) (Fits : A → Type 0) → P
 list_next text Fits peels xs [] fx fy r s e lt = absurd (omega arith)
 list_next text Fits peels [] (y ∷ ys) fx fy r s e lt = record { next = y; others = ys; all = refl; bytes = e ∙ append_assoc (text y) (flat_map text ys) s }
 list_next text Fits peels (x ∷ xs) (y ∷ ys) fx fy r s e lt =
-    let one = peels.peel x y (All-head Fits x xs fx) (All-head Fits y ys fy) (flat_map text xs ++ r) (flat_map text ys ++ s) (sym (append_assoc (text x) (flat_map text xs) r) ∙ e ∙ append_assoc (text y) (flat_map text ys) s) in
+    let one = peels.peel x y (All-head Fits x xs fx) (All-head Fits y ys fy) (flat_map text xs ++ r) (flat_map text ys ++ s) (opened text x xs y ys r s e) in
     let rest = list_next text Fits peels xs ys (All-tail Fits x xs fx) (All-tail Fits y ys fy) r s one.1 (omega arith) in
     record {
       next = rest.next;
@@ -78,7 +83,7 @@ list_whole text Fits peels [] [] fx fy r s e same = (refl, e)
 list_whole text Fits peels [] (y ∷ ys) fx fy r s e same = absurd (omega arith)
 list_whole text Fits peels (x ∷ xs) [] fx fy r s e same = absurd (omega arith)
 list_whole text Fits peels (x ∷ xs) (y ∷ ys) fx fy r s e same =
-    let one = peels.peel x y (All-head Fits x xs fx) (All-head Fits y ys fy) (flat_map text xs ++ r) (flat_map text ys ++ s) (sym (append_assoc (text x) (flat_map text xs) r) ∙ e ∙ append_assoc (text y) (flat_map text ys) s) in
+    let one = peels.peel x y (All-head Fits x xs fx) (All-head Fits y ys fy) (flat_map text xs ++ r) (flat_map text ys ++ s) (opened text x xs y ys r s e) in
     let rest = list_whole text Fits peels xs ys (All-tail Fits x xs fx) (All-tail Fits y ys fy) r s one.1 (omega arith) in
     (ap (λ z. z ∷ xs) one.0 ∙ ap (λ zs. y ∷ zs) rest.0, rest.1)
 

@@ -2,6 +2,9 @@ pub mod Readers
 pub mod Digits
 pub mod Taken
 pub mod Exact
+pub mod ExactNext
+pub mod ExactArcs
+pub mod KindReaders
 pub mod ExactNumbers
 pub mod ExactLines
 pub mod ExactJudged
@@ -20,5 +23,6 @@ pub mod NextLines
 pub mod Spelled
 pub mod Unique
 pub mod Refusing
+mod KnownFaults
 pub mod Verdicts
-pub mod KnownValues
+mod KnownValues

@@ -16,9 +16,10 @@ use Rattle.certificate.specs.LineFaults.{line_faults, StopsAfter, IsLineFault}
 use Rattle.certificate.specs.Stops.{refusal_of, StopsWith}
 use Rattle.certificate.specs.Refusals.{HasFaultyLine}
 use Rattle.certificate.proofs.Readers.{done, failed}
-use Rattle.certificate.proofs.Exact.{IsErr, StopsIn, IsExact}
+use Rattle.certificate.proofs.Exact.{IsErr, IsExact}
 use Rattle.certificate.proofs.ExactLines.{shape_at, shape_exact}
-use Rattle.certificate.proofs.ExactJudged.{reader_at, line_is, IsSaid, Judged, HasUnits, kind_judged}
+use Rattle.certificate.proofs.KindReaders.{reader_at, line_is}
+use Rattle.certificate.proofs.ExactJudged.{HasUnits, kind_judged}
 
 -- ---- what a draft has
 
@@ -58,15 +59,15 @@ some_kind stage.Done d = inl refl
 
 -- ---- what is no beginning
 
-no_beginning : (d : DraftData) → IsExact (shape_at (kind_at d.stage d)) line_text (IsNext d) → (before after : List ℕ) →
+pub no_beginning : (d : DraftData) → IsExact (shape_at (kind_at d.stage d)) line_text (IsNext d) → (before after : List ℕ) →
     ((byte : ℕ) (left other : List ℕ) → after ≡ byte ∷ left → IsErr (shape_at (kind_at d.stage d) (before ++ byte ∷ other))) → StopsAfter d before after
 no_beginning d exact before [] local = tt
 no_beginning d exact before (byte ∷ left) local = λ line next rest e.
-    let shape = shape_at (kind_at d.stage d) in
+    let shape : List ℕ → Result (Line × List ℕ) Fault = shape_at (kind_at d.stage d) in
     let whole : before ++ byte ∷ rest ≡ line_text line ++ [] = sym (append_assoc before (byte ∷ []) rest) ∙ e ∙ sym (append-nil (line_text line)) in
     let read : shape (before ++ byte ∷ rest) ≡ Ok (line, []) = ap shape whole ∙ exact.again line [] next in
     let stops = local byte left rest refl in
-    let both : failed stops.0 ≡ done (line, []) = sym stops.1 ∙ read in
+    let both : failed {A = Line × List ℕ} stops.0 ≡ done (line, []) = sym stops.1 ∙ read in
     cc
 
 -- ---- where the reading of a line stops

@@ -1,30 +1,23 @@
 -- The good line that comes next, at each stage.
-use Rattle.std.proofs.Common.{◌≡◌, ℕ, ◌+◌, ◌<◌, ◌≤◌, ◌==◌, Bool, true, false, cond, List, [], ◌∷◌, ◌++◌, length, length-append, None, Err, Ok, refl, sym, ap, subst, ◌∙◌, append_assoc, arith, All, ◌⊎◌, inl, inr, get_or}
-use Rattle.std.specs.Prelude.{codes, sum, nat_lt, nat_le, slice_index}
+use Rattle.std.proofs.Common.{◌≡◌, ℕ, ◌+◌, ◌<◌, ◌≤◌, ◌==◌, Bool, true, false, cond, List, [], ◌∷◌, ◌++◌, length, refl, sym, ap, subst, ◌∙◌, arith, inl, inr, get_or}
+use Rattle.std.specs.Prelude.{codes, sum}
 use Rattle.std.specs.List.{flat_map}
-use Rattle.std.proofs.lemmas.Bool.{lt-ltb, le-ltb, lt-leb, cases_lt, eqb-true}
-use Rattle.std.proofs.lemmas.List.{append-nil, append_cancel_left, get_or_at, nil_from_length}
+use Rattle.std.proofs.lemmas.Bool.{lt-ltb, le-ltb, cases_lt, eqb-true}
+use Rattle.std.proofs.lemmas.List.{append-nil, get_or_at, nil_from_length}
 use Rattle.std.proofs.lemmas.List.Sums.{sum_by-append, sum_by-cons}
 use Rattle.definitions.specs.declared.limits.TheConstants.{UNIT_LIMIT, LABEL_LIMIT, VOLUME_LIMIT, WAIT_LIMIT}
 use Rattle.definitions.specs.Decimal.{number_line}
-use Rattle.certificate.specs.declared.fault.Fault.{Fault}
 use Rattle.certificate.specs.declared.refused.Limit.{Limit}
 use Rattle.certificate.specs.declared.refused.Limit.TheVariants as limit
-use Rattle.certificate.specs.declared.stage.Stage.{Stage}
 use Rattle.certificate.specs.declared.stage.Stage.TheVariants as stage
 use Rattle.certificate.specs.Limits.{greatest}
-use Rattle.certificate.specs.Spelling.{Certificate, title, last_line, spelling}
-use Rattle.certificate.specs.Valid.{HasGoodLines}
-use Rattle.certificate.specs.Draft.{DraftData, text_before, text_so_far, up_to_nodes, up_to_arcs, up_to_k, up_to_rows}
-use Rattle.certificate.specs.Kept.{HasSizes, HasRows, IsWhole, IsAtStage, IsKept}
-use Rattle.certificate.specs.NextLine.{line_at}
-use Rattle.certificate.specs.Grammar.{Line, line_text, Kind, row_kind, kind_at, IsShort, HasNumber, IsOf}
+use Rattle.certificate.specs.Spelling.{Certificate, last_line}
+use Rattle.certificate.specs.Draft.{DraftData}
+use Rattle.certificate.specs.Grammar.{Line, line_text, Kind, kind_at, IsShort, HasNumber, IsOf}
 use Rattle.certificate.specs.LineFaults.{range_faults, line_faults}
-use Rattle.certificate.proofs.Readers.{done, failed}
-use Rattle.certificate.proofs.LineStops.{good_line}
-use Rattle.certificate.proofs.Fronts.{NextIs, number_peels, list_next}
-use Rattle.certificate.proofs.FrontHeader.{from_rows, from_waits, from_volumes, from_labels, from_demand, from_destination, from_k, from_arcs, from_nodes, text_is_parts, after_title, after_nodes, after_arcs, after_k}
-use Rattle.certificate.proofs.FrontRows.{IsFront, IsFull, is_front, demand_and, labels_and, volumes_and, waits_and, to_demand, to_labels, to_volumes, to_waits, to_end, full_of}
+use Rattle.certificate.proofs.Fronts.{number_peels, list_next}
+use Rattle.certificate.proofs.FrontHeader.{from_waits, from_volumes, from_labels}
+use Rattle.certificate.proofs.FrontRows.{IsFront, labels_and, volumes_and, waits_and, to_demand, to_labels, to_volumes, to_waits, to_end, full_of}
 use Rattle.certificate.proofs.Advancing.{Advances, next_of, in_range, middle, arc_next}
 
 -- ---- a line of a number

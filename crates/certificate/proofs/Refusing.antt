@@ -1,5 +1,5 @@
 -- Why a text is refused.
-use Rattle.std.proofs.Common.{◌≡◌, ℕ, List, Result, Ok, Err, IfErr, ap, subst, sym, ◌⊎◌, inl, inr}
+use Rattle.std.proofs.Common.{◌≡◌, ℕ, List, Result, Ok, Err, IfErr, subst, sym, ◌⊎◌, inl, inr}
 use Rattle.std.specs.Result.{IsErrAnd}
 use Rattle.certificate.specs.declared.checking.Verdict.{Verdict}
 use Rattle.certificate.specs.declared.refused.Refused.{Refused}

@@ -1,31 +1,25 @@
 -- A text that spells a certificate with good lines spells no other, and its reading does not stop.
-use Rattle.std.proofs.Common.{◌≡◌, ℕ, zero, suc, ◌+◌, ◌*◌, ◌<◌, ◌≤◌, List, [], ◌∷◌, ◌++◌, length, Result, Ok, Err, IfOk, MatchResult, refl, sym, ap, subst, ◌∙◌, append_assoc, arith, ◌⊎◌, inl, inr}
-use Rattle.std.specs.Prelude.{codes, sum}
-use Rattle.std.specs.Result.{IsErrAnd}
+use Rattle.std.proofs.Common.{◌≡◌, ℕ, ◌<◌, List, [], ◌++◌, length, Ok, refl, sym, ap, subst, ◌∙◌, append_assoc, arith, ◌⊎◌, inl, inr}
+use Rattle.std.specs.Prelude.{codes}
 use Rattle.std.proofs.lemmas.List.{append-nil, append_cancel_left}
 use Rattle.std.proofs.lemmas.Bool.{lt-leb}
-use Rattle.definitions.specs.Decimal.{number_line}
-use Rattle.certificate.specs.declared.checking.Verdict.{Verdict}
-use Rattle.certificate.specs.declared.fault.Fault.{Fault}
 use Rattle.certificate.specs.declared.refused.Refused.{Refused}
-use Rattle.certificate.specs.declared.refused.Refused.TheVariants as refused
 use Rattle.certificate.specs.declared.refused.Limit.TheVariants as limit
 use Rattle.certificate.specs.declared.stage.Stage.{Stage}
 use Rattle.certificate.specs.declared.stage.Stage.TheVariants as stage
-use Rattle.certificate.specs.Spelling.{Certificate, network_of, title, last_line, spelling}
-use Rattle.certificate.specs.Valid.{HasGoodLines, IsValid, verdict_of}
-use Rattle.certificate.specs.Draft.{DraftData, text_before, text_so_far, up_to_nodes, up_to_arcs, up_to_k, up_to_rows}
-use Rattle.certificate.specs.Kept.{HasSizes, HasRows, IsAtStage, IsKept}
+use Rattle.certificate.specs.Spelling.{Certificate, last_line, spelling}
+use Rattle.certificate.specs.Valid.{HasGoodLines}
+use Rattle.certificate.specs.Draft.{DraftData, text_before, up_to_rows}
+use Rattle.certificate.specs.Kept.{HasSizes, IsAtStage}
 use Rattle.certificate.specs.NextLine.{line_at}
-use Rattle.certificate.specs.Grammar.{Line, line_text, Kind, kind_at}
-use Rattle.certificate.specs.Judged.{IsFirstFailure}
+use Rattle.certificate.specs.Grammar.{Line, Kind, kind_at}
 use Rattle.certificate.specs.Stops.{StopsWith}
 use Rattle.certificate.proofs.Readers.{done, failed}
 use Rattle.certificate.proofs.LineStops.{good_line}
 use Rattle.certificate.proofs.FrontHeader.{from_rows, from_destination, from_k, from_arcs, from_nodes, short_lines, text_is_parts, after_title, after_nodes, after_arcs, after_k}
-use Rattle.certificate.proofs.FrontRows.{IsFront, is_front, to_end, full_of, same_certificate}
-use Rattle.certificate.proofs.Advancing.{Advances, next_of, in_range, no_arc_fault}
-use Rattle.certificate.proofs.NextLines.{number_next, IsLimited, row_next}
+use Rattle.certificate.proofs.FrontRows.{is_front, to_end, full_of}
+use Rattle.certificate.proofs.Advancing.{Advances, next_of}
+use Rattle.certificate.proofs.NextLines.{number_next, row_next}
 
 -- ---- the next line of any stage
 

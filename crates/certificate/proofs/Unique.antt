@@ -1,5 +1,5 @@
 -- A text that spells a valid certificate is accepted with its verdict, unless memory runs out.
-use Rattle.std.proofs.Common.{◌≡◌, ℕ, ◌+◌, ◌*◌, ◌<◌, ◌≤◌, List, ◌++◌, length, Result, Ok, Err, MatchResult, refl, sym, ap, subst, ◌∙◌, arith, ◌⊎◌, inl, inr}
+use Rattle.std.proofs.Common.{◌≡◌, ℕ, ◌<◌, List, length, Result, Ok, Err, MatchResult, refl, sym, ap, subst, ◌∙◌, arith, ◌⊎◌, inl, inr}
 use Rattle.std.specs.Prelude.{sum, slice_index}
 use Rattle.std.specs.Result.{IsErrAnd}
 use Rattle.definitions.specs.Network.{tail_of}
@@ -13,7 +13,7 @@ use Rattle.certificate.specs.Spelling.{Certificate, network_of, last_line, spell
 use Rattle.certificate.specs.Valid.{HasGoodLines, IsValid, verdict_of}
 use Rattle.certificate.specs.Draft.{DraftData}
 use Rattle.certificate.specs.Kept.{HasSizes, HasRows}
-use Rattle.certificate.specs.Judged.{IsFirstUnconserved, IsFirstWaitShort, IsLabelBroken, IsFirstLabelBroken, IsFirstFailure}
+use Rattle.certificate.specs.Judged.{IsLabelBroken, IsFirstFailure}
 use Rattle.certificate.specs.Stops.{StopsWith}
 use Rattle.certificate.proofs.FrontRows.{is_front, full_of, same_certificate}
 use Rattle.certificate.proofs.Advancing.{no_arc_fault}

@@ -19,7 +19,7 @@ use Rattle.certificate.specs.Grammar.{Line, line_text, IsNext}
 abbrev pub refused_if : Bool → Refused → List Refused
 refused_if test answer = if test then answer ∷ [] else []
 
--- a count is within the limit
+-- the refusal of a count past the limit
 abbrev pub range_faults : Limit → ℕ → List Refused
 range_faults limit count = refused_if (nat_lt (greatest limit) count) (refused.Range limit count)
 

@@ -37,7 +37,7 @@ pub struct Verdict {
 ///
 /// The first in the order of the format: the first faulty line, then the first node that does not
 /// conserve, the first boarding arc whose wait is short, the first node whose label is too high.
-/// `NoMemory` may come in place of any.
+/// `NoMemory` may come in place of any, and is the only one for the text of a valid certificate.
 pub fn check_text(alloc: Global, bytes: &[u8]) -> Result<Verdict, Refused>
     ensures valid { IfOk result (HasVerdict bytes.now) }
     ensures no_plan_is_cheaper { IfOk result (NoPlanIsCheaperIn bytes.now) }
