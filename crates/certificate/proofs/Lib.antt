@@ -22,7 +22,12 @@ pub mod Advancing
 pub mod NextLines
 pub mod Spelled
 pub mod Unique
-pub mod Refusing
 mod KnownFaults
 pub mod Verdicts
+pub mod LineReaders
+pub mod NumberReaders
+pub mod LineForms
+pub mod TextLength
+pub mod FedLemmas
+pub mod PartLemmas
 mod KnownValues

@@ -10,7 +10,7 @@ use Rattle.certificate.specs.declared.refused.Refused.{Refused}
 use Rattle.certificate.specs.declared.refused.Refused.TheVariants as refused
 use Rattle.certificate.specs.declared.stage.Stage.TheVariants as stage
 use Rattle.certificate.specs.Spelling.{Certificate, network_of, last_line, spelling}
-use Rattle.certificate.specs.Valid.{HasGoodLines, IsValid, verdict_of}
+use Rattle.certificate.specs.Valid.{HasGoodLines, IsValid, IsOnly, verdict_of}
 use Rattle.certificate.specs.Draft.{DraftData}
 use Rattle.certificate.specs.Kept.{HasSizes, HasRows}
 use Rattle.certificate.specs.Judged.{IsLabelBroken, IsFirstFailure}
@@ -99,10 +99,6 @@ holds c answer valid (inr (kept, inl first)) =
 holds c answer valid (inr (kept, inr (waited, first))) = labels_hold c valid first.at answer first.within first.broken
 
 -- ---- what is answered
-
--- only this is answered of a valid certificate
-abbrev pub IsOnly : List ℕ → Result Verdict Refused → Type 0
-IsOnly bytes result = (c : Certificate) → IsValid c → bytes ≡ spelling c → MatchResult result (λ verdict. verdict ≡ verdict_of c) (λ answer. answer ≡ refused.NoMemory)
 
 pub only_read : (r : Result Verdict Refused) (bytes : List ℕ) (answer : Refused) → (answer ≡ refused.NoMemory) ⊎ StopsWith bytes answer → IsErrAnd r (λ e. e ≡ answer) → IsOnly bytes r
 only_read (Ok v) bytes answer why is c valid text = absurd is

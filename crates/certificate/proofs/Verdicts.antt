@@ -1,5 +1,5 @@
 -- A certificate that is read and judged is valid, and no plan is cheaper than its bound.
-use Rattle.std.proofs.Common.{◌≡◌, ℕ, ◌*◌, ◌≤◌, List, ◌++◌, length, Result, Ok, Err, IfOk, refl, ap, sym, ◌∙◌, arith}
+use Rattle.std.proofs.Common.{◌≡◌, ℕ, ◌*◌, ◌≤◌, List, ◌++◌, length, Result, Ok, Err, IfOk, refl, ap, sym, ◌∙◌, arith, inr}
 use Rattle.std.proofs.lemmas.List.{append-nil, nil_from_length}
 use Rattle.definitions.specs.Network.{tail_of}
 use Rattle.definitions.specs.Plan.{cost_of_plan}
@@ -7,7 +7,9 @@ use Rattle.definitions.proofs.DualityLemmas.{duality}
 use Rattle.certificate.specs.declared.checking.Verdict.{Verdict}
 use Rattle.certificate.specs.Spelling.{Certificate, network_of, spelling}
 use Rattle.certificate.specs.Valid.{HasGoodLines, IsValid, verdict_of, HasVerdict, NoPlanIsCheaperIn}
-use Rattle.certificate.specs.Judged.{IsConserved, IsWaited, AreLabelsKept}
+use Rattle.certificate.specs.declared.refused.Refused.{Refused}
+use Rattle.certificate.specs.Judged.{IsConserved, IsWaited, AreLabelsKept, IsFirstFailure}
+use Rattle.certificate.specs.Refusals.{IsRefusedWith}
 
 -- where nothing is left, the text so far is the text
 pub text_is : {E : Type 0} (r : Result Certificate E) (bytes so_far rest : List ℕ) (c : Certificate) → so_far ++ rest ≡ bytes → length rest ≡ 0 → so_far ≡ spelling c →
@@ -54,3 +56,7 @@ gap_is bytes verdict h =
     let low : 1 * verdict.bound ≤ cost_of_plan (network_of c) c.volumes c.waits = (lower_bound bytes verdict h).lower 1 c.volumes c.waits h.valid.plan in
     let cost : verdict.cost ≡ cost_of_plan (network_of c) c.volumes c.waits = ap (λ (v : Verdict). v.cost) h.shown in
     omega arith
+
+-- a certificate that is read and fails is refused for it
+pub failure_is : (bytes : List ℕ) (c : Certificate) (answer : Refused) → bytes ≡ spelling c → HasGoodLines c → IsFirstFailure c answer → IsRefusedWith bytes answer
+failure_is bytes c answer text lines first = inr (inr (record { certificate = c; text = text; lines = lines; first = first }))

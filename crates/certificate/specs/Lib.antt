@@ -14,3 +14,5 @@ pub mod Stops
 pub mod Judged
 pub mod Claims
 pub mod Refusals
+pub mod Fed
+pub mod CheckerFields

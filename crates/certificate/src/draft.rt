@@ -1,10 +1,11 @@
 //! A certificate as far as it is read: its numbers, and no second copy of its text.
 
-ghost use Rattle.std.specs.Prelude.{◌≡◌, ◌≢◌, ◌↔◌, IsTrue, IfOk, OnErr};
+ghost use Rattle.std.specs.Prelude.{◌≡◌, ◌≢◌, ◌≤◌, ◌↔◌, ◌++◌, ◌⊎◌, length, None, IsTrue, IfOk, IfErr, IfSome, OnOk, OnErr};
 ghost use Rattle.certificate.specs.Bytes.{Gives};
-ghost use Rattle.certificate.specs.Draft.{Took};
+ghost use Rattle.certificate.specs.Draft.{Took, text_so_far};
 ghost use Rattle.certificate.specs.NextLine.{line_at};
 ghost use Rattle.certificate.specs.Kept.{IsKept};
+ghost use Rattle.certificate.specs.Fed.{IsPastArcs, HasFault};
 
 mod header_lines;
 mod row_lines;
@@ -47,6 +48,7 @@ impl Draft {
     /// A draft of which nothing is read.
     pub fn new(alloc: Global) -> Draft
         ensures stage { result.stage ≡ Stage.Title }
+        ensures kept { IsKept result }
     {
         Draft {
             alloc,
@@ -76,6 +78,7 @@ impl Draft {
         ensures read { result ≢ Err Fault.NoMemory → Gives (λ rest. rest.now) result (line_at self.old bytes.now) }
         ensures memory { result ≡ Err Fault.NoMemory → self.old.stage ≡ Stage.Arcs }
         ensures err { OnErr result (self.new ≡ self.old) }
+        ensures onward { IsPastArcs self.old.stage → IsPastArcs self.new.stage }
     {
         match self.stage {
             Stage::Title => self.title_line(bytes),
@@ -86,5 +89,43 @@ impl Draft {
             Stage::Rows => self.row(bytes),
             Stage::Done => Err(Fault::Stop(bytes.len())),
         }
+    }
+
+    /// Takes the next line from the front of the bytes, and gives the bytes after it, or None where
+    /// the line is not ended.
+    pub fn next_line<'a>(&mut self, bytes: &'a [u8]) -> Result<Option<&'a [u8]>, Fault>
+        requires kept { IsKept self.old }
+        ensures took { IfOk result (λ ended. IfSome ended (λ rest. Took self.old bytes.now self.new rest.now)) }
+        ensures read { IfOk result (λ ended. IfSome ended (λ rest. line_at self.old bytes.now ≡ Ok rest.now)) }
+        ensures unended { result ≡ Ok None → (line_at self.old bytes.now ≡ Err (Fault.Stop 0)) × (self.new ≡ self.old) }
+        ensures fault { IfErr result (λ fault. (fault ≡ Fault.NoMemory) ⊎ HasFault (text_so_far self.old ++ bytes.now) fault) }
+        ensures memory { IsPastArcs self.old.stage → result ≢ Err Fault.NoMemory }
+        ensures onward { IsPastArcs self.old.stage → IsPastArcs self.new.stage }
+    {
+        match self.line(bytes) {
+            Ok(rest) => Ok(Some(rest)),
+            Err(Fault::Stop(0)) => Ok(None),
+            Err(fault) => Err(fault),
+        }
+    }
+
+    /// Takes all lines that are ended from the front of the bytes, and gives the bytes after them.
+    pub fn lines<'a>(&mut self, bytes: &'a [u8]) -> Result<&'a [u8], Fault>
+        ensures text { IfOk result (λ rest. text_so_far self.new ++ rest.now ≡ text_so_far self.old ++ bytes.now) }
+        ensures within { IfOk result (λ rest. length rest.now ≤ length bytes.now) }
+        ensures unended { IfOk result (λ rest. line_at self.new rest.now ≡ Err (Fault.Stop 0)) }
+        ensures kept { OnOk result (IsKept self.new) }
+        ensures fault { IfErr result (λ fault. (fault ≡ Fault.NoMemory) ⊎ HasFault (text_so_far self.old ++ bytes.now) fault) }
+        ensures memory { IsPastArcs self.old.stage → result ≢ Err Fault.NoMemory }
+        ensures onward { IsPastArcs self.old.stage → IsPastArcs self.new.stage }
+    {
+        let mut rest = bytes;
+        while !self.is_done() || !rest.is_empty() {
+            match self.next_line(rest)? {
+                Some(after) => rest = after,
+                None => return Ok(rest),
+            }
+        }
+        Ok(rest)
     }
 }

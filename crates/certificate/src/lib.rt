@@ -2,6 +2,7 @@
 #![tactic(auto)]
 
 mod bytes;
+mod checker;
 mod checking;
 mod claim;
 mod draft;
@@ -11,5 +12,6 @@ mod refused;
 mod rows;
 mod stage;
 
+pub use checker::Checker;
 pub use checking::{Verdict, check_text};
 pub use refused::{Limit, Refused};

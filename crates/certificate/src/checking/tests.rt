@@ -1,5 +1,7 @@
 //! Whole texts: what is answered, with values worked out by hand from the format.
 
+mod pieces;
+
 use super::{Verdict, check_text};
 use crate::refused::{Limit, Refused};
 use lp_model::NetFault;
@@ -47,17 +49,18 @@ fn one_line(alloc: Global) -> Result<Vec<u8>, AllocError> {
 
 // Cost 60,000 + 257,143; bound 317,142; h = 1,800,000,000 / 7,000 = 257,143 rounded up, and the
 // slack is 1 * (1 + 2 * h).
+const ONE_LINE_VERDICT: Verdict = Verdict {
+    units: 1,
+    cost: 317_143,
+    bound: 317_142,
+    slack: 514_287,
+};
+
 #[test]
 fn one_line_is_valid(rt: HostRuntime) -> Result<(), Fail> {
     let text = one_line(rt.alloc())?;
-    let verdict = Verdict {
-        units: 1,
-        cost: 317_143,
-        bound: 317_142,
-        slack: 514_287,
-    };
     assert_eq!(rt; text.len(), 126);
-    assert_eq!(rt; check_text(rt.alloc(), &text), Ok(verdict));
+    assert_eq!(rt; check_text(rt.alloc(), &text), Ok(ONE_LINE_VERDICT));
     Ok(())
 }
 

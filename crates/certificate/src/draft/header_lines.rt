@@ -6,6 +6,7 @@ ghost use Rattle.certificate.specs.Lines.{number_line_at, destination_line_at};
 ghost use Rattle.certificate.specs.Spelling.{title};
 ghost use Rattle.certificate.specs.Draft.{Took};
 ghost use Rattle.certificate.specs.NextLine.{rest_of};
+ghost use Rattle.certificate.specs.Fed.{IsPastArcs};
 
 use crate::bytes::literal_of;
 use crate::draft::Draft;
@@ -62,6 +63,7 @@ impl Draft {
         ensures took { IfOk result (λ rest. Took self.old bytes.now self.new rest.now) }
         ensures read { Gives (λ rest. rest.now) result (rest_of (number_line_at (codes "k") Limit.K bytes.now)) }
         ensures err { OnErr result (self.new ≡ self.old) }
+        ensures onward { IsPastArcs self.new.stage }
     {
         let (number, rest) = number_line_of(b"k", Limit::K, bytes)?;
         self.k = number as u64;
@@ -75,6 +77,7 @@ impl Draft {
         ensures took { IfOk result (λ rest. Took self.old bytes.now self.new rest.now) }
         ensures read { Gives (λ rest. rest.now) result (rest_of (destination_line_at self.old.nodes bytes.now)) }
         ensures err { OnErr result (self.new ≡ self.old) }
+        ensures onward { IsPastArcs self.new.stage }
     {
         let (number, rest) = destination_line_of(self.nodes, bytes)?;
         self.destination = number;

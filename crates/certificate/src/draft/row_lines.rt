@@ -7,6 +7,7 @@ ghost use Rattle.certificate.specs.Lines.{number_line_at, demand_line_at, arc_li
 ghost use Rattle.certificate.specs.Spelling.{last_line};
 ghost use Rattle.certificate.specs.Draft.{Took, network_so_far};
 ghost use Rattle.certificate.specs.NextLine.{rest_of, row_at};
+ghost use Rattle.certificate.specs.Fed.{IsPastArcs};
 
 use crate::bytes::literal_of;
 use crate::draft::Draft;
@@ -22,6 +23,7 @@ impl Draft {
         ensures took { IfOk result (λ rest. Took self.old bytes.now self.new rest.now) }
         ensures read { Gives (λ rest. rest.now) result (row_at self.old bytes.now) }
         ensures err { OnErr result (self.new ≡ self.old) }
+        ensures onward { IsPastArcs self.new.stage }
     {
         let nodes = self.nodes as usize;
         let arc_count = self.arc_count as usize;
@@ -58,6 +60,7 @@ impl Draft {
         ensures read { Gives (λ rest. rest.now) result
             (rest_of (arc_line_at self.old.nodes (tail_before (network_so_far self.old) (length self.old.arcs)) (length self.old.arcs) bytes.now)) }
         ensures err { OnErr result (self.new ≡ self.old) }
+        ensures onward { IsPastArcs self.new.stage }
     {
         let number = self.rows.arcs.len() as u32;
         let before = self.last_tail();
@@ -74,6 +77,7 @@ impl Draft {
         ensures took { IfOk result (λ rest. Took self.old bytes.now self.new rest.now) }
         ensures read { Gives (λ rest. rest.now) result (rest_of (demand_line_at (length self.old.demand == self.old.destination) self.old.units bytes.now)) }
         ensures err { OnErr result (self.new ≡ self.old) }
+        ensures onward { IsPastArcs self.new.stage }
     {
         let is_destination = self.rows.demand.len() == self.destination as usize;
         let (count, rest) = demand_line_of(is_destination, self.units, bytes)?;
@@ -90,6 +94,7 @@ impl Draft {
         ensures took { IfOk result (λ rest. Took self.old bytes.now self.new rest.now) }
         ensures read { Gives (λ rest. rest.now) result (rest_of (number_line_at (codes "u") Limit.Label bytes.now)) }
         ensures err { OnErr result (self.new ≡ self.old) }
+        ensures onward { IsPastArcs self.new.stage }
     {
         let (label, rest) = number_line_of(b"u", Limit::Label, bytes)?;
         self.rows.labels.push_reserved(label as u64);
@@ -104,6 +109,7 @@ impl Draft {
         ensures took { IfOk result (λ rest. Took self.old bytes.now self.new rest.now) }
         ensures read { Gives (λ rest. rest.now) result (rest_of (number_line_at (codes "v") Limit.Volume bytes.now)) }
         ensures err { OnErr result (self.new ≡ self.old) }
+        ensures onward { IsPastArcs self.new.stage }
     {
         let (volume, rest) = number_line_of(b"v", Limit::Volume, bytes)?;
         self.rows.volumes.push_reserved(volume as u64);
@@ -119,6 +125,7 @@ impl Draft {
         ensures took { IfOk result (λ rest. Took self.old bytes.now self.new rest.now) }
         ensures read { Gives (λ rest. rest.now) result (rest_of (number_line_at (codes "q") Limit.Wait bytes.now)) }
         ensures err { OnErr result (self.new ≡ self.old) }
+        ensures onward { IsPastArcs self.new.stage }
     {
         let (wait, rest) = number_line_of(b"q", Limit::Wait, bytes)?;
         self.rows.waits.push_reserved(wait);
@@ -132,6 +139,7 @@ impl Draft {
         ensures took { IfOk result (λ rest. Took self.old bytes.now self.new rest.now) }
         ensures read { Gives (λ rest. rest.now) result (literal_at last_line bytes.now) }
         ensures err { OnErr result (self.new ≡ self.old) }
+        ensures onward { IsPastArcs self.new.stage }
     {
         let rest = literal_of(b"end\n", bytes)?;
         self.stage = Stage::Done;

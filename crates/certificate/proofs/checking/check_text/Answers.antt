@@ -1,29 +1,19 @@
-use Rattle.certificate.proofs.Verdicts.{verdict_is, lower_bound, gap_is}
-use Rattle.certificate.proofs.Refusing.{read_refused}
-use Rattle.certificate.proofs.Unique.{only_read, only_judged, only_shown, bound_holds}
+use Rattle.std.proofs.Common.{◌≡◌, ◌⊎◌}
+use Rattle.certificate.specs.declared.refused.Refused.TheVariants as refused
+use Rattle.certificate.specs.Fed.{bytes_so_far}
+use Rattle.certificate.specs.Stops.{StopsWith}
+use Rattle.certificate.proofs.FedLemmas.{first_stops, handed_on, refused_with}
+use Rattle.certificate.proofs.Unique.{only_read}
 use Rattle.certificate.proofs.checking.check_text.Goals as goal
 
-pub returns-clause-valid : goal.returns-clause-valid
-returns-clause-valid c = verdict_is c.args.bytes.now c.in_ok-claim.claim c.verdict.result c.in_ok-claim.ensures.text c.in_ok-judge.ensures.valid c.verdict.ensures.value
+pub returns-in_err-feed-clause-refused : goal.returns-in_err-feed-clause-refused
+returns-in_err-feed-clause-refused c =
+    let stops : (c.in_err-feed.field-0.0 ≡ refused.NoMemory) ⊎ StopsWith c.args.bytes.now c.in_err-feed.field-0.0 =
+    first_stops (bytes_so_far c.new-checker.result) c.args.bytes.now c.in_err-feed.field-0.0 c.new-checker.ensures.bytes (c.in_err-feed.ensures.refused c.new-checker.ensures.fresh) in
+    handed_on c.from_residual.result c.args.bytes.now c.in_err-feed.field-0.0 (refused_with c.args.bytes.now c.in_err-feed.field-0.0 stops) c.from_residual.ensures.1
 
-pub returns-clause-no_plan_is_cheaper : goal.returns-clause-no_plan_is_cheaper
-returns-clause-no_plan_is_cheaper c = lower_bound c.args.bytes.now c.verdict.result (returns-clause-valid c)
-
-pub returns-clause-gap : goal.returns-clause-gap
-returns-clause-gap c = gap_is c.args.bytes.now c.verdict.result (returns-clause-valid c)
-
-pub returns-in_err-claim-clause-refused : goal.returns-in_err-claim-clause-refused
-returns-in_err-claim-clause-refused c = read_refused c.from_residual.result c.args.bytes.now _ c.in_err-claim.ensures.refused c.from_residual.ensures.1
-
-pub returns-in_err-claim-clause-only : goal.returns-in_err-claim-clause-only
-returns-in_err-claim-clause-only c = only_read c.from_residual.result c.args.bytes.now c.in_err-claim.field-0.0 c.in_err-claim.ensures.refused c.from_residual.ensures.1
-
-pub returns-in_err-judge-clause-only : goal.returns-in_err-judge-clause-only
-returns-in_err-judge-clause-only c =
-    only_judged c.from_residual-in_err-judge.result c.args.bytes.now c.in_ok-claim.claim c.in_err-judge.field-0.0 c.in_ok-claim.ensures.text c.in_ok-claim.ensures.lines c.in_err-judge.ensures.refused c.from_residual-in_err-judge.ensures.1
-
-pub returns-clause-only : goal.returns-clause-only
-returns-clause-only c = only_shown c.verdict.result c.args.bytes.now c.in_ok-claim.claim c.in_ok-claim.ensures.text c.in_ok-claim.ensures.lines c.verdict.ensures.value
-
-pub returns-clause-bound_holds : goal.returns-clause-bound_holds
-returns-clause-bound_holds c = bound_holds c.verdict.result c.args.bytes.now c.in_ok-claim.claim c.in_ok-claim.ensures.text c.in_ok-claim.ensures.lines c.verdict.ensures.value
+pub returns-in_err-feed-clause-only : goal.returns-in_err-feed-clause-only
+returns-in_err-feed-clause-only c =
+    only_read c.from_residual.result c.args.bytes.now c.in_err-feed.field-0.0
+    (first_stops (bytes_so_far c.new-checker.result) c.args.bytes.now c.in_err-feed.field-0.0 c.new-checker.ensures.bytes (c.in_err-feed.ensures.refused c.new-checker.ensures.fresh))
+    c.from_residual.ensures.1

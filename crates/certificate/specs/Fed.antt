@@ -1,0 +1,58 @@
+-- A text that is fed in pieces.
+use Rattle.std.specs.Prelude.{◌≡◌, ◌≢◌, ℕ, List, ◌++◌, length, Option, Err}
+use Rattle.certificate.specs.declared.stage.Stage.{Stage}
+use Rattle.certificate.specs.declared.stage.Stage.TheVariants as stage
+use Rattle.certificate.specs.declared.fault.Fault.{Fault}
+use Rattle.certificate.specs.declared.fault.Fault.TheVariants as fault
+use Rattle.certificate.specs.declared.refused.Refused.{Refused}
+use Rattle.certificate.specs.Draft.{DraftData, text_so_far}
+use Rattle.certificate.specs.NextLine.{line_at}
+use Rattle.certificate.specs.Kept.{IsKept}
+use Rattle.certificate.specs.Stops.{refusal_of}
+
+-- what a checker keeps: the lines so far, the part of the next one, and the refusal that it gave
+pub record CheckerData : Type 0 where
+  pub draft : DraftData
+  pub part : List ℕ
+  pub refused : Option Refused
+
+-- the bytes that it was fed
+abbrev pub bytes_so_far : CheckerData → List ℕ
+bytes_so_far c = text_so_far c.draft ++ c.part
+
+-- the line of the number of arcs is read
+abbrev pub IsPastArcs : Stage → Type 0
+IsPastArcs stage.Title = ⊥
+IsPastArcs stage.Nodes = ⊥
+IsPastArcs stage.Arcs = ⊥
+IsPastArcs stage.K = Unit {0}
+IsPastArcs stage.Destination = Unit {0}
+IsPastArcs stage.Rows = Unit {0}
+IsPastArcs stage.Done = Unit {0}
+
+-- the bytes are good lines and then the front of a line, which is not ended
+pub record IsUnended (bytes : List ℕ) : Type 0 where
+  pub draft : DraftData
+  pub kept : IsKept draft
+  pub part : List ℕ
+  pub text : text_so_far draft ++ part ≡ bytes
+  pub stops : line_at draft part ≡ Err (fault.Stop 0)
+
+-- the bytes are good lines and then one with a fault, or bytes after the last; that they end is none
+pub record HasFault (bytes : List ℕ) (reason : Fault) : Type 0 where
+  pub draft : DraftData
+  pub kept : IsKept draft
+  pub rest : List ℕ
+  pub text : text_so_far draft ++ rest ≡ bytes
+  pub stops : line_at draft rest ≡ Err reason
+  pub ended : reason ≢ fault.Stop 0
+
+-- the refusal is that of such a fault
+pub record IsRefusedForLine (bytes : List ℕ) (answer : Refused) : Type 0 where
+  pub reason : Fault
+  pub stands : HasFault bytes reason
+  pub says : answer ≡ refusal_of (length bytes) reason
+
+-- and it is, whatever bytes follow
+abbrev pub IsRefusedForGood : List ℕ → Refused → Type 0
+IsRefusedForGood bytes answer = (more : List ℕ) → IsRefusedForLine (bytes ++ more) answer
