@@ -17,7 +17,7 @@ none_of : {X : Type 0} (f : ℕ → List X) (a n : ℕ) → ((i : ℕ) → a ≤
 none_of f a zero h = refl
 none_of f a (suc n) h = rw (h a (omega arith) (omega arith), none_of f (a + 1) n (λ i low high. h i (omega arith) (omega arith))) refl
 
-faultless : (d : DraftData) → HasSizes d → HasRows d → network_faults (network_so_far d) ≡ []
+pub faultless : (d : DraftData) → HasSizes d → HasRows d → network_faults (network_so_far d) ≡ []
 faultless d sizes rows =
     let few : length d.arcs ≤ ARC_LIMIT = omega (arith, rows.order.arcs, sizes.arcs) in
     let net : NetworkData = network_so_far d in

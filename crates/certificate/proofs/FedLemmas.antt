@@ -1,7 +1,8 @@
 -- What a fault of a line says of a text that goes on.
-use Rattle.std.proofs.Common.{◌≡◌, ℕ, zero, suc, ◌+◌, ◌^◌, ◌<◌, ◌≤◌, List, [], ◌∷◌, ◌++◌, ◌⊎◌, inl, inr, length, Result, Ok, Err, refl, sym, ap, subst, ◌∙◌, append_assoc, arith, length-append}
+use Rattle.std.proofs.Common.{◌≡◌, ℕ, zero, suc, ◌+◌, ◌^◌, ◌<◌, ◌≤◌, List, ◌++◌, ◌⊎◌, inl, inr, length, Result, Ok, Err, IfErr, refl, sym, ap, subst, ◌∙◌, append_assoc, arith, length-append}
 use Rattle.std.specs.Prelude.{◌≢◌}
-use Rattle.std.proofs.lemmas.List.{append-nil}
+use Rattle.std.specs.Result.{IsErrAnd}
+use Rattle.certificate.specs.declared.checking.Verdict.{Verdict}
 use Rattle.certificate.specs.declared.fault.Fault.{Fault}
 use Rattle.certificate.specs.declared.fault.Fault.TheVariants as fault
 use Rattle.certificate.specs.declared.stage.Stage.TheVariants as stage
@@ -9,8 +10,10 @@ use Rattle.certificate.specs.declared.refused.Refused.{Refused}
 use Rattle.certificate.specs.declared.refused.Refused.TheVariants as refused
 use Rattle.certificate.specs.Draft.{DraftData, text_so_far}
 use Rattle.certificate.specs.NextLine.{line_at, line_of}
-use Rattle.certificate.specs.Refusals.{refusal_of, HasFaultyLine, IsRefusedWith}
-use Rattle.certificate.specs.Fed.{HasFault, IsRefusedForLine, IsRefusedForGood}
+use Rattle.certificate.specs.Stops.{refusal_of, StopsWith}
+use Rattle.certificate.specs.Refusals.{IsRefusedWith}
+use Rattle.certificate.proofs.LineStops.{faulty_line}
+use Rattle.certificate.specs.Fed.{HasFault, IsRefusedForLine, StopsForGood}
 use Rattle.certificate.proofs.LineReaders.{plain, Takes, Lasts, Stays}
 use Rattle.certificate.proofs.LineForms.{line_reader}
 use Rattle.certificate.proofs.TextLength.{MOST, text_few}
@@ -54,7 +57,7 @@ same_refusal count more (fault.Range limit number) = refl
 same_refusal count more (fault.Arc inner) = refl
 same_refusal count more fault.NoMemory = refl
 
-pub refused_for_good : (bytes : List ℕ) (reason : Fault) (answer : Refused) → HasFault bytes reason → answer ≡ refusal_of (length bytes) reason → IsRefusedForGood bytes answer
+pub refused_for_good : (bytes : List ℕ) (reason : Fault) (answer : Refused) → HasFault bytes reason → answer ≡ refusal_of (length bytes) reason → StopsForGood bytes answer
 refused_for_good bytes reason answer h says = λ more. record {
   reason = later (length more) reason;
   stands = fault_lasts bytes more reason h;
@@ -62,13 +65,13 @@ refused_for_good bytes reason answer h says = λ more. record {
 }
 
 -- so of bytes and those behind them
-refused_before : (bytes more : List ℕ) (answer : Refused) → IsRefusedForGood bytes answer → IsRefusedForGood (bytes ++ more) answer
+refused_before : (bytes more : List ℕ) (answer : Refused) → StopsForGood bytes answer → StopsForGood (bytes ++ more) answer
 refused_before bytes more answer h = λ others. subst (λ xs. IsRefusedForLine xs answer) (sym (append_assoc bytes more others)) (h (more ++ others))
 
 -- and of bytes that go on to the whole
-pub refused_on : (bytes more whole : List ℕ) (answer : Refused) → bytes ++ more ≡ whole → ((answer ≡ refused.NoMemory) ⊎ IsRefusedForGood bytes answer) → (answer ≡ refused.NoMemory) ⊎ IsRefusedForGood whole answer
+pub refused_on : (bytes more whole : List ℕ) (answer : Refused) → bytes ++ more ≡ whole → ((answer ≡ refused.NoMemory) ⊎ StopsForGood bytes answer) → (answer ≡ refused.NoMemory) ⊎ StopsForGood whole answer
 refused_on bytes more whole answer e (inl memory) = inl memory
-refused_on bytes more whole answer e (inr h) = inr (subst (λ xs. IsRefusedForGood xs answer) e (refused_before bytes more answer h))
+refused_on bytes more whole answer e (inr h) = inr (subst (λ xs. StopsForGood xs answer) e (refused_before bytes more answer h))
 
 -- a place of a fault is counted in 64 bits
 pub record IsPlace (count left : ℕ) : Type 0 where
@@ -93,7 +96,7 @@ place_if bytes reason count left same (inr h) e =
     (omega (arith, place.within), omega (arith, place.early))
 
 pub refused_if : (bytes : List ℕ) (reason : Fault) (answer : Refused) (count : ℕ) → count ≡ length bytes → ((reason ≡ fault.NoMemory) ⊎ HasFault bytes reason) → answer ≡ refusal_of count reason →
-    (answer ≡ refused.NoMemory) ⊎ IsRefusedForGood bytes answer
+    (answer ≡ refused.NoMemory) ⊎ StopsForGood bytes answer
 refused_if bytes reason answer count same (inl memory) says = inl (says ∙ ap (refusal_of count) memory)
 refused_if bytes reason answer count same (inr h) says = inr (refused_for_good bytes reason answer h (says ∙ ap (λ n. refusal_of n reason) same))
 
@@ -113,24 +116,12 @@ done_part d part done stops = let e = subst (λ s. line_of s d part ≡ Err (fau
 
 -- ---- a whole text
 
-some_left : (d : DraftData) (rest : List ℕ) (reason : Fault) → d.stage ≡ stage.Done → line_at d rest ≡ Err reason → reason ≢ fault.Stop 0 → 0 < length rest
-some_left d [] reason done stops ended = absurd (ended (let e = subst (λ s. line_of s d [] ≡ Err reason) done stops in cc))
-some_left d (b ∷ bs) reason done stops ended = omega arith
+-- where its reading stops, it is refused
+pub refused_with : (bytes : List ℕ) (answer : Refused) → (answer ≡ refused.NoMemory) ⊎ StopsWith bytes answer → IsRefusedWith bytes answer
+refused_with bytes answer (inl memory) = inl memory
+refused_with bytes answer (inr stops) = inr (inl (faulty_line bytes answer stops))
 
-faulty_line : (bytes : List ℕ) (answer : Refused) → IsRefusedForLine bytes answer → HasFaultyLine bytes answer
-faulty_line bytes answer h = record {
-  draft = h.stands.draft;
-  kept = h.stands.kept;
-  rest = h.stands.rest;
-  text = h.stands.text;
-  more = λ done. some_left h.stands.draft h.stands.rest h.reason done h.stands.stops h.stands.ended;
-  fault = h.reason;
-  stops = h.stands.stops;
-  says = h.says;
-}
-
--- what is refused of bytes that are fed first is refused of them as a whole text
-pub first_refused : (before bytes : List ℕ) (answer : Refused) → before ≡ [] → ((answer ≡ refused.NoMemory) ⊎ IsRefusedForGood (before ++ bytes) answer) → IsRefusedWith bytes answer
-first_refused before bytes answer none (inl memory) = inl memory
-first_refused before bytes answer none (inr h) =
-    inr (inl (faulty_line bytes answer (subst (λ xs. IsRefusedForLine xs answer) (append-nil (before ++ bytes) ∙ ap (λ xs. xs ++ bytes) none) (h []))))
+-- an error that is handed on is that refusal
+pub handed_on : (r : Result Verdict Refused) (bytes : List ℕ) (answer : Refused) → IsRefusedWith bytes answer → IsErrAnd r (λ e. e ≡ answer) → IfErr r (IsRefusedWith bytes)
+handed_on (Ok verdict) bytes answer why is = tt
+handed_on (Err e) bytes answer why is = subst (IsRefusedWith bytes) (sym is) why

@@ -10,25 +10,25 @@ use Rattle.certificate.specs.Draft.{DraftData, network_so_far}
 use Rattle.certificate.specs.Kept.{HasGoodArcs, HasRows, IsAtStage}
 
 -- a network of these arcs
-abbrev net_of : ℕ → ℕ → List NetArc → NetworkData
+abbrev pub net_of : ℕ → ℕ → List NetArc → NetworkData
 net_of nodes k arcs = record { nodes = nodes; arcs = arcs; k = k }
 
 -- the arc before is the same
-same_before : (nodes k : ℕ) (arcs : List NetArc) (a : NetArc) (arc : ℕ) → arc ≤ length arcs → tail_before (net_of nodes k (arcs ++ a ∷ [])) arc ≡ tail_before (net_of nodes k arcs) arc
-same_before nodes k arcs a zero le = refl
-same_before nodes k arcs a (suc arc) le =
+pub same_before : (nodes k : ℕ) (arcs more : List NetArc) (arc : ℕ) → arc ≤ length arcs → tail_before (net_of nodes k (arcs ++ more)) arc ≡ tail_before (net_of nodes k arcs) arc
+same_before nodes k arcs more zero le = refl
+same_before nodes k arcs more (suc arc) le =
     let lt : arc < length arcs = omega arith in
-    ap (λ (b : NetArc). b.tail) (get_or_append_left arcs (a ∷ []) no_arc arc lt)
+    ap (λ (b : NetArc). b.tail) (get_or_append_left arcs more no_arc arc lt)
 
 good_more : (nodes k : ℕ) (arcs : List NetArc) (a : NetArc) → HasGoodArcs (net_of nodes k arcs) → arc_faults nodes (tail_before (net_of nodes k arcs) (length arcs)) (length arcs) a ≡ [] →
     HasGoodArcs (net_of nodes k (arcs ++ a ∷ []))
 good_more nodes k arcs a good here arc lt = elim (cases_lt arc (length arcs)) [
   | inl before ↦
-      rw (same_before nodes k arcs a arc (omega arith), get_or_append_left arcs (a ∷ []) no_arc arc before) (good arc before)
+      rw (same_before nodes k arcs (a ∷ []) arc (omega arith), get_or_append_left arcs (a ∷ []) no_arc arc before) (good arc before)
   | inr past ↦
       let long = length_push arcs a in
       let last : arc ≡ length arcs = omega arith in
-      rw (last, same_before nodes k arcs a (length arcs) (omega arith), get_or_push arcs a no_arc (length arcs) refl) here
+      rw (last, same_before nodes k arcs (a ∷ []) (length arcs) (omega arith), get_or_push arcs a no_arc (length arcs) refl) here
 ]
 
 pub arc_keeps : (d : DraftData) (a : NetArc) → d.stage ≡ stage.Rows → IsAtStage d.stage d → length d.arcs < d.arc_count →

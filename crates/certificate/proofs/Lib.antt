@@ -1,16 +1,34 @@
 pub mod Readers
 pub mod Digits
 pub mod Taken
+pub mod Exact
+pub mod ExactNext
+pub mod ExactArcs
+pub mod KindReaders
+pub mod ExactNumbers
+pub mod ExactLines
+pub mod ExactJudged
+pub mod LineStops
 pub mod Growth
 pub mod Keeping
 pub mod Memory
 pub mod OwnArcs
 pub mod LabelLemmas
 pub mod Faultless
+pub mod Fronts
+pub mod FrontHeader
+pub mod FrontRows
+pub mod Advancing
+pub mod NextLines
+pub mod Spelled
+pub mod Unique
+mod KnownFaults
 pub mod Verdicts
 pub mod LineReaders
 pub mod NumberReaders
 pub mod LineForms
 pub mod TextLength
 pub mod FedLemmas
+pub mod ForGood
 pub mod PartLemmas
+mod KnownValues

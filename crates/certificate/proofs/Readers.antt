@@ -14,6 +14,10 @@ bind_ok (Err d) f y e = absurd cc
 abbrev pub done : {A : Type 0} → A → Result A Fault
 done x = Ok x
 
+-- a fault that stops
+abbrev pub failed : {A : Type 0} → Fault → Result A Fault
+failed f = Err f
+
 -- one value is read
 pub ok_is : {A : Type 0} (x y : A) → done x ≡ done y → x ≡ y
 ok_is x y e = cc

@@ -22,7 +22,7 @@ use Rattle.certificate.specs.Spelling.{weight_text, arc_line}
 use Rattle.certificate.proofs.Readers.{bind_ok, done, ok_is, held, chosen, unless_ok}
 use Rattle.certificate.proofs.Digits.{digits_taken}
 
-byte_taken : (c : ℕ) (bs rest : List ℕ) → byte_at c bs ≡ Ok rest → bs ≡ c ∷ rest
+pub byte_taken : (c : ℕ) (bs rest : List ℕ) → byte_at c bs ≡ Ok rest → bs ≡ c ∷ rest
 byte_taken c [] rest e = absurd cc
 byte_taken c (b ∷ bs) rest e =
     let h = held (b == c) (fault.Stop (length (b ∷ bs))) bs rest e in
@@ -39,7 +39,7 @@ unfolding number_at
 number_taken end bytes p e =
     let d = bind_ok (digits_at bytes) (λ q. byte_at end q.1 >>= λ r. Ok (q.0, r)) p e in
     let b = bind_ok (byte_at end d.0.1) (λ r. done (d.0.0, r)) p d.2 in
-    let whole : bytes ≡ decimal d.0.0 ++ end ∷ b.0 = digits_taken bytes d.0 d.1 ∙ ap (λ bs. decimal d.0.0 ++ bs) (byte_taken end d.0.1 b.0 b.1) in
+    let whole : bytes ≡ decimal d.0.0 ++ end ∷ b.0 = (digits_taken bytes d.0 d.1).parts ∙ ap (λ bs. decimal d.0.0 ++ bs) (byte_taken end d.0.1 b.0 b.1) in
     subst (λ (q : ℕ × List ℕ). bytes ≡ decimal q.0 ++ end ∷ q.1) (ok_is (d.0.0, b.0) p b.2) whole
 
 -- ---- lines of a word and a number

@@ -8,7 +8,9 @@ use Rattle.certificate.specs.declared.refused.Refused.{Refused}
 use Rattle.certificate.specs.Draft.{DraftData, text_so_far}
 use Rattle.certificate.specs.NextLine.{line_at}
 use Rattle.certificate.specs.Kept.{IsKept}
-use Rattle.certificate.specs.Refusals.{refusal_of}
+use Rattle.certificate.specs.Stops.{refusal_of}
+use Rattle.certificate.specs.Refusals.{HasFaultyLine}
+use Rattle.certificate.specs.Valid.{IsNoCertificate}
 
 -- what a checker keeps: the lines so far, the part of the next one, and the refusal that it gave
 pub record CheckerData : Type 0 where
@@ -54,5 +56,10 @@ pub record IsRefusedForLine (bytes : List ℕ) (answer : Refused) : Type 0 where
   pub says : answer ≡ refusal_of (length bytes) reason
 
 -- and it is, whatever bytes follow
-abbrev pub IsRefusedForGood : List ℕ → Refused → Type 0
-IsRefusedForGood bytes answer = (more : List ℕ) → IsRefusedForLine (bytes ++ more) answer
+abbrev pub StopsForGood : List ℕ → Refused → Type 0
+StopsForGood bytes answer = (more : List ℕ) → IsRefusedForLine (bytes ++ more) answer
+
+-- whatever bytes follow, the refusal is that of the first faulty line, and the text is that of no valid certificate
+pub record IsRefusedForGood (bytes : List ℕ) (answer : Refused) : Type 0 where
+  pub line : (more : List ℕ) → HasFaultyLine (bytes ++ more) answer
+  pub invalid : (more : List ℕ) → IsNoCertificate (bytes ++ more)

@@ -6,8 +6,11 @@ pub mod Lines
 pub mod Rows
 pub mod Draft
 pub mod NextLine
+pub mod Grammar
+pub mod LineFaults
 pub mod Kept
 pub mod DraftFields
+pub mod Stops
 pub mod Judged
 pub mod Claims
 pub mod Refusals

@@ -1,5 +1,5 @@
 -- Valid certificates, and what they show.
-use Rattle.std.specs.Prelude.{◌≡◌, ℕ, ◌<◌, ◌≤◌, ◌==◌, List, length, All, sum, slice_index, if◌then◌else◌}
+use Rattle.std.specs.Prelude.{◌≡◌, ℕ, ◌<◌, ◌≤◌, ◌==◌, List, length, All, sum, slice_index, if◌then◌else◌, Result, MatchResult}
 use Rattle.definitions.specs.declared.limits.TheConstants.{UNIT_LIMIT, LABEL_LIMIT, VOLUME_LIMIT, WAIT_LIMIT}
 use Rattle.definitions.specs.Network.{IsNetwork}
 use Rattle.definitions.specs.Plan.{IsPlan, cost_of_plan}
@@ -7,6 +7,8 @@ use Rattle.definitions.specs.Dual.{IsDualFeasible, bound_of_labels}
 use Rattle.definitions.specs.Duality.{NoPlanIsCheaper}
 use Rattle.definitions.specs.Totals.{boarding_stops, longest_wait, slack_of}
 use Rattle.certificate.specs.declared.checking.Verdict.{Verdict}
+use Rattle.certificate.specs.declared.refused.Refused.{Refused}
+use Rattle.certificate.specs.declared.refused.Refused.TheVariants as refused
 use Rattle.certificate.specs.Spelling.{Certificate, network_of, spelling}
 
 -- a certificate that keeps the limits and the rules of networks, with a number for each node and arc
@@ -46,7 +48,23 @@ pub record HasVerdict (bytes : List ℕ) (verdict : Verdict) : Type 0 where
   pub valid : IsValid certificate
   pub shown : verdict ≡ verdict_of certificate
 
+-- the bytes are the text of no valid certificate
+abbrev pub IsNoCertificate : List ℕ → Type 0
+IsNoCertificate bytes = (certificate : Certificate) → IsValid certificate → bytes ≡ spelling certificate → ⊥
+
 -- the bytes are the text of a valid certificate with this verdict, and no plan for its problem, at any scale, costs less than the scale times the bound
 pub record NoPlanIsCheaperIn (bytes : List ℕ) (verdict : Verdict) : Type 0 where
   pub text : HasVerdict bytes verdict
   pub lower : NoPlanIsCheaper (network_of text.certificate) text.certificate.destination text.certificate.demand verdict.bound
+
+-- only the verdict of a valid certificate that the bytes spell is answered, or want of memory
+abbrev pub IsOnly : List ℕ → Result Verdict Refused → Type 0
+IsOnly bytes result =
+    (certificate : Certificate) → IsValid certificate → bytes ≡ spelling certificate →
+    MatchResult result (λ verdict. verdict ≡ verdict_of certificate) (λ answer. answer ≡ refused.NoMemory)
+
+-- whatever valid certificate the bytes spell, no plan for its problem, at any scale, costs less than the scale times the bound
+abbrev pub BoundHolds : List ℕ → ℕ → Type 0
+BoundHolds bytes bound =
+    (certificate : Certificate) → IsValid certificate → bytes ≡ spelling certificate →
+    NoPlanIsCheaper (network_of certificate) certificate.destination certificate.demand bound

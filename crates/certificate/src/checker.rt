@@ -1,7 +1,7 @@
 //! Certificates that are checked in pieces.
 
 ghost use Rattle.std.specs.Prelude.{◌≡◌, ◌≢◌, ◌≤◌, ◌++◌, ◌⊎◌, [], None, Some, IfOk, OnOk, IfErr};
-ghost use Rattle.certificate.specs.Valid.{HasVerdict, NoPlanIsCheaperIn};
+ghost use Rattle.certificate.specs.Valid.{HasVerdict, NoPlanIsCheaperIn, IsOnly, BoundHolds};
 ghost use Rattle.certificate.specs.Refusals.{IsRefusedWith};
 ghost use Rattle.certificate.specs.Fed.{bytes_so_far, IsPastArcs, IsRefusedForGood, IsUnended};
 
@@ -92,6 +92,8 @@ impl Checker {
         ensures no_plan_is_cheaper { IfOk result (NoPlanIsCheaperIn (bytes_so_far self)) }
         ensures gap { IfOk result (λ verdict. verdict.bound ≤ verdict.cost) }
         ensures refused { self.refused ≡ None → IfErr result (IsRefusedWith (bytes_so_far self)) }
+        ensures only { self.refused ≡ None → IsOnly (bytes_so_far self) result }
+        ensures bound_holds { IfOk result (λ verdict. BoundHolds (bytes_so_far self) verdict.bound) }
         ensures same { (answer : Refused) → self.refused ≡ Some answer → result ≡ Err answer }
     {
         let Checker { reading, refused } = self;

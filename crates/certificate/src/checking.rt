@@ -1,7 +1,7 @@
 //! Whether a text is a valid certificate.
 
 ghost use Rattle.std.specs.Prelude.{◌≤◌, IfOk, OnOk, IfErr};
-ghost use Rattle.certificate.specs.Valid.{HasGoodLines, IsValid, HasVerdict, NoPlanIsCheaperIn};
+ghost use Rattle.certificate.specs.Valid.{HasGoodLines, IsValid, HasVerdict, NoPlanIsCheaperIn, IsOnly, BoundHolds};
 ghost use Rattle.certificate.specs.Judged.{IsFirstFailure};
 ghost use Rattle.certificate.specs.Refusals.{IsRefusedWith};
 
@@ -38,6 +38,8 @@ pub fn check_text(alloc: Global, bytes: &[u8]) -> Result<Verdict, Refused>
     ensures valid { IfOk result (HasVerdict bytes.now) }
     ensures no_plan_is_cheaper { IfOk result (NoPlanIsCheaperIn bytes.now) }
     ensures refused { IfErr result (IsRefusedWith bytes.now) }
+    ensures only { IsOnly bytes.now result }
+    ensures bound_holds { IfOk result (λ verdict. BoundHolds bytes.now verdict.bound) }
     ensures gap { IfOk result (λ verdict. verdict.bound ≤ verdict.cost) }
 {
     let mut checker = Checker::new(alloc);

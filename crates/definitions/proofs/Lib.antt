@@ -4,3 +4,4 @@ pub mod Spans
 pub mod Grouped
 pub mod TotalsLemmas
 pub mod KnownValues
+pub mod FourStops

@@ -1,5 +1,5 @@
 -- Networks of nodes and arcs, both known by their numbers.
--- Spiess and Florian 1989, with the wait constant K in place of the factor of the wait. Here: docs/DEFINITIONS.md.
+-- Spiess and Florian 1989, with the wait constant K in place of the factor of the wait. Here: docs/FORMATS.md.
 use Rattle.std.specs.Prelude.{ℕ, ◌<◌, ◌≤◌, ◌==◌, Bool, None, List, length, filter, IsTrue, is_some, unwrap_or, slice_index_or}
 use Rattle.std.specs.List.{range_with_len}
 use Rattle.definitions.specs.declared.arc.NetArc.{NetArc}

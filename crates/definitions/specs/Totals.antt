@@ -1,5 +1,5 @@
 -- Totals of a network, and the slack: how far the cost of an assignment may lie above its bound.
--- Here: docs/DEFINITIONS.md.
+-- Here: docs/FORMATS.md.
 use Rattle.std.specs.Prelude.{ℕ, ◌+◌, ◌*◌, ◌==◌, nat_lt, min, List, [], ◌∷◌, length, count_by, filter, if◌then◌else◌, map}
 use Rattle.std.specs.List.{fold}
 use Rattle.std.specs.Int.{div_ceil}

@@ -10,5 +10,5 @@ pub use arc::NetArc;
 pub use duality::weak_duality;
 pub use limits::{
     ARC_LIMIT, COST_LIMIT, FILE_LIMIT, K_LIMIT, LABEL_LIMIT, NODE_LIMIT, UNIT_LIMIT, VOLUME_LIMIT,
-    WAIT_LIMIT, WEIGHT_LIMIT, ZONE_LIMIT,
+    WAIT_LIMIT, WEIGHT_LIMIT,
 };

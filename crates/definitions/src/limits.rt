@@ -6,9 +6,6 @@ pub const NODE_LIMIT: u32 = 1_048_576;
 /// Arcs of a network.
 pub const ARC_LIMIT: u32 = 4_194_304;
 
-/// Zones, and so destinations of one assignment.
-pub const ZONE_LIMIT: u32 = 4_096;
-
 /// Units (1/1,000,000 trip) of a demand table or of one text.
 pub const UNIT_LIMIT: u64 = 1_000_000_000_000_000;
 

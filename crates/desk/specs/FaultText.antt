@@ -1,5 +1,5 @@
 -- The fault text of each cause: one line, in parts that are joined. Here: docs/FORMATS.md.
-use Rattle.std.specs.Prelude.{ℕ, nat_lt, nat_le, ◌&&◌, List, [], ◌∷◌, codes, take, map, Option, None, Some, if◌then◌else◌}
+use Rattle.std.specs.Prelude.{ℕ, nat_le, ◌&&◌, List, [], ◌∷◌, codes, take, map, Option, None, Some, if◌then◌else◌}
 use Rattle.std.specs.List.{concat}
 use Rattle.definitions.specs.Decimal.{numeral, line_end}
 use Rattle.lp_model.specs.declared.fault.NetFault.{NetFault}

@@ -1,22 +1,29 @@
 -- A text that was read in pieces, and why it was not.
-use Rattle.std.specs.Prelude.{◌≡◌, ℕ, ◌+◌, ◌<◌, ◌≤◌, List, ◌++◌, length, Option, None, IfSome}
+use Rattle.std.specs.Prelude.{◌≡◌, ℕ, ◌+◌, ◌<◌, ◌≤◌, ◌⊎◌, List, ◌++◌, length, Option, None, Some, IfSome}
 use Rattle.definitions.specs.declared.limits.TheConstants.{FILE_LIMIT}
 use Rattle.definitions.specs.Causes.{Rose}
-use Rattle.certificate.specs.Fed.{CheckerData, bytes_so_far}
+use Rattle.certificate.specs.declared.refused.Refused.{Refused as RefusedText}
+use Rattle.certificate.specs.declared.refused.Refused.TheVariants as refused
+use Rattle.certificate.specs.Fed.{CheckerData, bytes_so_far, IsRefusedForGood}
 use Rattle.desk.specs.declared.status.Limit.TheVariants.{File}
 use Rattle.desk.specs.declared.status.Cause.{Cause}
 use Rattle.desk.specs.declared.status.Cause.TheVariants.{Range, ReadFault, NoMemory}
 
--- where the checker has not refused, it had not before, and was fed the piece
-abbrev pub Feeds : CheckerData → List ℕ → CheckerData → Type 0
-Feeds old piece new = new.refused ≡ None → (old.refused ≡ None) × (bytes_so_far new ≡ bytes_so_far old ++ piece)
+-- a checker that was fed the bytes, or refused each text that begins with them
+pub record HasRead (checker : CheckerData) (bytes : List ℕ) : Type 0 where
+  pub fed : checker.refused ≡ None → bytes_so_far checker ≡ bytes
+  pub refused : (answer : RefusedText) → checker.refused ≡ Some answer → (answer ≡ refused.NoMemory) ⊎ IsRefusedForGood bytes answer
 
--- all bytes that were left are within the limit, and were fed to the checker unless it refused
+-- whatever bytes the checker had read, it has read them and the piece
+abbrev pub Feeds : CheckerData → List ℕ → CheckerData → Type 0
+Feeds old piece new = (bytes : List ℕ) → HasRead old bytes → HasRead new (bytes ++ piece)
+
+-- the checker has read all bytes that were left, and they are within the limit
 pub record IsFed (left : Option (List ℕ)) (checker : CheckerData) : Type 0 where
   pub bytes : List ℕ
   pub told : IfSome left (λ told. bytes ≡ told)
   pub within : length bytes ≤ FILE_LIMIT
-  pub fed : checker.refused ≡ None → bytes_so_far checker ≡ bytes
+  pub read : HasRead checker bytes
 
 -- why the bytes that were left were not all read; the counts are those of their source
 abbrev pub Unfed : Option (List ℕ) → ℕ → ℕ → Cause → Type 0

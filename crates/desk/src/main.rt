@@ -11,19 +11,29 @@ mod tests;
 mod verdict_lines;
 
 use desk_io::{Name, RealFolder, RealStream};
+use fault_text::write_fault_text;
 use run::run;
+use status::{Cause, Status, UsageFault};
+use std::io::ErrorKind;
 use std::process::ExitCode;
 use std::{env, io};
 
 fn main(rt: HostRuntime) -> ExitCode {
-    let Ok(words) = words(&rt) else {
-        return ExitCode::from(11);
-    };
     let alloc = rt.alloc();
-    let mut out = RealStream::new(rt.stdout());
+    let words = words(&rt);
     let mut err = RealStream::new(rt.stderr());
-    let mut folder = RealFolder::new(rt);
-    let status = run(alloc, &words, &mut folder, &mut out, &mut err);
+    let status = match words {
+        Ok(words) => {
+            let mut out = RealStream::new(rt.stdout());
+            let mut folder = RealFolder::new(rt);
+            run(alloc, &words, &mut folder, &mut out, &mut err)
+        }
+        Err(error) => {
+            let cause = cause_without_words(error);
+            let _ = write_fault_text(&mut err, &cause);
+            Status::of(cause)
+        }
+    };
     ExitCode::from(status.code)
 }
 
@@ -34,4 +44,12 @@ fn words(rt: &HostRuntime) -> io::Result<Vec<Name>> {
         words.push(Name::new(word))?;
     }
     Ok(words)
+}
+
+// Why there are no words: there is no memory for them, or one is no text.
+fn cause_without_words(error: io::Error) -> Cause {
+    match error.kind() {
+        ErrorKind::OutOfMemory => Cause::NoMemory,
+        _ => Cause::Usage(UsageFault::Words),
+    }
 }

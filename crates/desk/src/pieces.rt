@@ -1,7 +1,8 @@
 //! Text in pieces, which is written without memory.
 
-ghost use Rattle.std.specs.Prelude.{◌≡◌, ◌++◌, List, [], ℕ, map, take, OnErr, OnOk, length, ◌≤◌};
-ghost use Rattle.std.specs.List.{flat_map};
+ghost use Rattle.std.specs.Prelude.{◌≡◌, ◌≤◌, [], ◌∷◌, map, take, OnErr, OnOk, length};
+ghost use Rattle.std.specs.List.{concat, flat_map};
+ghost use Rattle.definitions.specs.Decimal.{numeral, line_end};
 ghost use Rattle.definitions.specs.Causes.{Rose};
 ghost use Rattle.desk_io.specs.Told.{Appends};
 ghost use Rattle.desk.specs.FaultText.{shown, shown_byte};
@@ -31,6 +32,17 @@ pub fn write_pieces<S: Sink>(sink: &mut S, pieces: &[Piece<'_>]) -> Result<(), F
         write_piece(sink, piece)?;
     }
     Ok(())
+}
+
+/// Writes words, a number and the end of the line.
+pub fn write_numbered<S: Sink>(sink: &mut S, words: &str, number: u128) -> Result<(), Failed>
+    ensures prints { Prints (S.count sink.old) (S.count sink.new) (S.written sink.old) (S.written sink.new)
+        (concat (words.now ∷ numeral number ∷ line_end ∷ [])) }
+{
+    write_pieces(
+        sink,
+        &[Piece::Text(words), Piece::Number(number), Piece::Text("\n")],
+    )
 }
 
 // Writes one piece.

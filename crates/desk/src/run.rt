@@ -1,13 +1,14 @@
 //! All that the program does, over a folder and two streams.
 
-ghost use Rattle.std.specs.Prelude.{◌≡◌, ◌↔◌, ◌+◌, ◌≤◌, ℕ, List, length, None, Some, IfOk, IfErr, IfSome};
+ghost use Rattle.std.specs.Prelude.{◌≡◌, ◌↔◌, ◌+◌, ◌≤◌, ◌⊎◌, ℕ, List, length, None, Some, IfOk, IfErr, IfSome};
 ghost use Rattle.std.specs.Option.{option_copied};
 ghost use Rattle.definitions.specs.Causes.{Rose};
+ghost use Rattle.desk_io.specs.Told.{Appends};
 ghost use Rattle.certificate.specs.declared.refused.Refused.{Refused as RefusedText};
 ghost use Rattle.desk.specs.Command.{Check, path_of, command_of};
-ghost use Rattle.desk.specs.Ends.{EndsCheck, NamesPath, Printed, Unchecked};
+ghost use Rattle.desk.specs.Ends.{EndsCheck, EndsPrinting, NamesPath, Unchecked};
 ghost use Rattle.desk.specs.FaultText.{fault_text};
-ghost use Rattle.desk.specs.Outcome.{IsChecked, IsMissing, IsRead, IsTooLong, PrintedInPart, PrintedWhole};
+ghost use Rattle.desk.specs.Outcome.{IsChecked, IsMissing, IsOutcome, IsRefused, IsTooLong, LiesOutside, PrintedInPart, PrintedWhole};
 ghost use Rattle.desk.specs.Printing.{Prints};
 ghost use Rattle.desk.specs.Status.{code_of, WritesNothing};
 
@@ -53,8 +54,12 @@ pub fn run<D: Folder, O: Sink, E: Sink>(
     ensures range { (limit : Limit) (count : ℕ) → result.cause ≡ Cause.Range limit count
         → (limit ≡ Limit.File) × (count ≡ FILE_LIMIT + 1) × IsTooLong (D.files folder.old) (command_of words.now) }
     ensures refused { (fault : RefusedText) → result.cause ≡ Cause.Refused fault
-        → IsRead (D.files folder.old) (command_of words.now) }
+        → IsRefused (D.files folder.old) (command_of words.now) fault }
     ensures write_cause { (sent : ℕ) → result.cause ≡ Cause.WriteFault sent → Rose (O.count out.old) (O.count out.new) }
+
+    // Over a folder that tells its files, all this in one relation.
+    ensures outcome { IfSome (D.files folder.old) (λ files. LiesOutside result.cause ⊎ ((output : List ℕ)
+        × IsOutcome files (command_of words.now) result.cause output × Appends (O.written out.old) (O.written out.new) output)) }
 
     // What is appended: the first bytes of the lines where `out` failed, and after the other causes nothing.
     ensures sent { (sent : ℕ) → result.cause ≡ Cause.WriteFault sent
@@ -83,7 +88,10 @@ fn path_of(words: &[Name]) -> Option<&str>
 
 // Prints the verdict of the certificate at the path.
 fn check<D: Folder, O: Sink>(alloc: Global, path: &str, folder: &mut D, out: &mut O) -> Cause
-    ensures ends { EndsCheck (D.files folder.old) path.now (D.count folder.old) (D.count folder.new) (O.count out.old) (O.count out.new) (O.written out.old) (O.written out.new) result }
+    ensures ends { EndsCheck
+        (record { files = D.files folder.old; old_count = D.count folder.old; new_count = D.count folder.new })
+        (record { old_count = O.count out.old; new_count = O.count out.new; old = O.written out.old; new = O.written out.new })
+        path.now result }
 {
     match verdict_of_file(alloc, path, folder) {
         Ok(verdict) => print_verdict(alloc, &verdict, out),
@@ -95,7 +103,8 @@ fn check<D: Folder, O: Sink>(alloc: Global, path: &str, folder: &mut D, out: &mu
 fn verdict_of_file<D: Folder>(alloc: Global, path: &str, folder: &mut D) -> Result<Verdict, Cause>
     ensures checked { IfOk result (IsChecked (D.files folder.old) (Some (Check path.now))) }
     ensures gap { IfOk result (λ verdict. verdict.bound ≤ verdict.cost) }
-    ensures unchecked { IfErr result (Unchecked (D.files folder.old) path.now (D.count folder.old) (D.count folder.new)) }
+    ensures unchecked { IfErr result (Unchecked
+        (record { files = D.files folder.old; old_count = D.count folder.old; new_count = D.count folder.new }) path.now) }
 {
     match folder.begin(path) {
         Begin::Found => {}
@@ -124,7 +133,8 @@ fn no_file(alloc: Global, path: &str) -> Cause
 // Prints a verdict, and tells how that ended.
 fn print_verdict<O: Sink>(alloc: Global, verdict: &Verdict, out: &mut O) -> Cause
     requires gap { verdict.now.bound ≤ verdict.now.cost }
-    ensures printed { Printed verdict.now (O.count out.old) (O.count out.new) (O.written out.old) (O.written out.new) result }
+    ensures ends { EndsPrinting verdict.now
+        (record { old_count = O.count out.old; new_count = O.count out.new; old = O.written out.old; new = O.written out.new }) result }
 {
     let Ok(lines) = verdict_lines(alloc, verdict) else {
         return Cause::NoMemory;

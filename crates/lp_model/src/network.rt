@@ -7,7 +7,7 @@ ghost use Rattle.definitions.specs.Network.{IsNetwork, arc_at, is_boarding, weig
 ghost use Rattle.definitions.specs.Totals.{boarding_stops, least_weight, longest_wait};
 ghost use Rattle.lp_model.specs.declared.fault.NetFault.TheVariants.{NoMemory};
 ghost use Rattle.lp_model.specs.Faults.{network_faults, first_fault};
-ghost use Rattle.lp_model.specs.Parts.{network_of, first_arc};
+ghost use Rattle.lp_model.specs.Parts.{network_with, first_arc};
 
 use crate::boarding::{has_boarding, least_weight_of};
 use crate::fault::NetFault;
@@ -34,13 +34,13 @@ pub struct Network {
 impl Model for Network {
     ghost use Rattle.definitions.specs.Network.{NetworkData};
     ghost use Rattle.lp_model.specs.Indexed.{IsIndexed};
-    ghost use Rattle.lp_model.specs.Parts.{network_of};
+    ghost use Rattle.lp_model.specs.Parts.{network_with};
 
     ghost Value = { NetworkData };
 
-    ghost view = { λ n. network_of n.nodes n.arcs.items n.k };
+    ghost view = { λ n. network_with n.nodes n.arcs.items n.k };
 
-    ghost invariant = { λ n. IsIndexed (network_of n.nodes n.arcs.items n.k) n.firsts.items n.into_arcs.items n.into_firsts.items };
+    ghost invariant = { λ n. IsIndexed (network_with n.nodes n.arcs.items n.k) n.firsts.items n.into_arcs.items n.into_firsts.items };
 }
 
 impl Network {
@@ -55,12 +55,12 @@ impl Network {
     ///   its cost, `ZeroWeight`, `NotGrouped`.
     /// - `NoMemory` may come in place of any of these.
     pub fn new(nodes: u32, arcs: Vec<NetArc>, k: u64) -> Result<Network, NetFault>
-        ensures network { IfOk result (λ network. network ≡ network_of nodes arcs.items k) }
-        ensures accepted { OnOk result (IsNetwork (network_of nodes arcs.items k)) }
+        ensures network { IfOk result (λ network. network ≡ network_with nodes arcs.items k) }
+        ensures accepted { OnOk result (IsNetwork (network_with nodes arcs.items k)) }
 
         // Each fault is answered, and no other comes before it.
-        ensures faultless { OnOk result (network_faults (network_of nodes arcs.items k) ≡ []) }
-        ensures refused { IfErr result (λ fault. (fault ≡ NoMemory) ⊎ (first_fault (network_of nodes arcs.items k) ≡ Some fault)) }
+        ensures faultless { OnOk result (network_faults (network_with nodes arcs.items k) ≡ []) }
+        ensures refused { IfErr result (λ fault. (fault ≡ NoMemory) ⊎ (first_fault (network_with nodes arcs.items k) ≡ Some fault)) }
     {
         judge_sizes(nodes, &arcs, k)?;
         judge_arcs(nodes, &arcs, k)?;
@@ -177,8 +177,8 @@ impl Network {
 
 // The network of numbers without a fault.
 fn index(nodes: u32, arcs: Vec<NetArc>, k: u64) -> Result<Network, AllocError>
-    requires rules { IsNetwork (network_of nodes arcs.items k) }
-    ensures network { IfOk result (λ network. network ≡ network_of nodes arcs.items k) }
+    requires rules { IsNetwork (network_with nodes arcs.items k) }
+    ensures network { IfOk result (λ network. network ≡ network_with nodes arcs.items k) }
 {
     let alloc = *arcs.allocator();
     let firsts = firsts_of(alloc, nodes, &arcs, End::Tail)?;

@@ -17,6 +17,7 @@ pub fn cost_of(net: &Network, v: &[u64], q: &[u128]) -> u128
     ensures value { result ≡ cost_of_plan net.now v.now q.now }
     ensures within { result < 2 ^ 127 }
 {
+    // There are no more waits than nodes may be.
     let _nodes = net.nodes();
     travel_of(net, v) + waits_of(q)
 }
@@ -98,6 +99,7 @@ pub fn flow_out(net: &Network, v: &[u64], n: u32) -> u128
     ensures value { result ≡ flow_out_of net.now v.now n }
     ensures within { result < 2 ^ 96 }
 {
+    // A node has no more arcs than there may be.
     let _arcs = net.arcs();
     let first = net.first(n) as usize;
     sum_of(&v[first..first + net.out(n).len()])
@@ -123,6 +125,7 @@ pub fn flow_in(net: &Network, v: &[u64], n: u32) -> u128
     ensures value { result ≡ flow_into net.now v.now n }
     ensures within { result < 2 ^ 96 }
 {
+    // A node has no more arcs than there may be.
     let _arcs = net.arcs();
     sum_at(v, net.into(n))
 }

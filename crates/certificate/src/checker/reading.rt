@@ -5,8 +5,8 @@ ghost use Rattle.arrayvec.specs.ArrayVec.{array_vec_len};
 ghost use Rattle.certificate.specs.Spelling.{spelling};
 ghost use Rattle.certificate.specs.Valid.{HasGoodLines};
 ghost use Rattle.certificate.specs.Draft.{text_so_far};
-ghost use Rattle.certificate.specs.Refusals.{refusal_of, HasFaultyLine};
-ghost use Rattle.certificate.specs.Fed.{IsPastArcs, IsRefusedForGood};
+ghost use Rattle.certificate.specs.Stops.{refusal_of, StopsWith};
+ghost use Rattle.certificate.specs.Fed.{IsPastArcs, StopsForGood};
 ghost use Rattle.certificate.specs.CheckerFields.{bytes_of, IsCounted, IsReading};
 
 use crate::claim::Claim;
@@ -44,7 +44,7 @@ impl Reading {
         requires reading { IsReading self.old }
         ensures reading { OnOk result (IsReading self.new) }
         ensures bytes { OnOk result (bytes_of self.new ≡ bytes_of self.old ++ piece.now) }
-        ensures refused { IfErr result (λ answer. (answer ≡ Refused.NoMemory) ⊎ IsRefusedForGood (bytes_of self.old ++ piece.now) answer) }
+        ensures refused { IfErr result (λ answer. (answer ≡ Refused.NoMemory) ⊎ StopsForGood (bytes_of self.old ++ piece.now) answer) }
         ensures memory { IsPastArcs self.old.draft.stage → result ≢ Err Refused.NoMemory }
         ensures onward { OnOk result (IsPastArcs self.old.draft.stage → IsPastArcs self.new.draft.stage) }
     {
@@ -61,7 +61,7 @@ impl Reading {
         ensures some { IfOk result (λ given. IfSome given (λ rest. (bytes_of self.new ++ rest.now ≡ bytes_of self.old ++ piece.now) × (self.new.before ≡ length (text_so_far self.new.draft)) × (self.new.part.items ≡ []))) }
         ensures reading { result ≡ Ok None → IsReading self.new }
         ensures bytes { result ≡ Ok None → bytes_of self.new ≡ bytes_of self.old ++ piece.now }
-        ensures refused { IfErr result (λ answer. (answer ≡ Refused.NoMemory) ⊎ IsRefusedForGood (bytes_of self.old ++ piece.now) answer) }
+        ensures refused { IfErr result (λ answer. (answer ≡ Refused.NoMemory) ⊎ StopsForGood (bytes_of self.old ++ piece.now) answer) }
         ensures memory { IsPastArcs self.old.draft.stage → result ≢ Err Refused.NoMemory }
         ensures onward { OnOk result (IsPastArcs self.old.draft.stage → IsPastArcs self.new.draft.stage) }
     {
@@ -87,7 +87,7 @@ impl Reading {
         requires whole { self.old.part.items ≡ [] }
         ensures reading { OnOk result (IsReading self.new) }
         ensures bytes { OnOk result (bytes_of self.new ≡ bytes_of self.old ++ bytes.now) }
-        ensures refused { IfErr result (λ answer. (answer ≡ Refused.NoMemory) ⊎ IsRefusedForGood (bytes_of self.old ++ bytes.now) answer) }
+        ensures refused { IfErr result (λ answer. (answer ≡ Refused.NoMemory) ⊎ StopsForGood (bytes_of self.old ++ bytes.now) answer) }
         ensures memory { IsPastArcs self.old.draft.stage → result ≢ Err Refused.NoMemory }
         ensures onward { OnOk result (IsPastArcs self.old.draft.stage → IsPastArcs self.new.draft.stage) }
     {
@@ -105,7 +105,7 @@ impl Reading {
         requires reading { IsReading self }
         ensures text { IfOk result (λ claim. bytes_of self ≡ spelling claim) }
         ensures lines { IfOk result HasGoodLines }
-        ensures refused { IfErr result (λ answer. (answer ≡ Refused.NoMemory) ⊎ HasFaultyLine (bytes_of self) answer) }
+        ensures refused { IfErr result (λ answer. (answer ≡ Refused.NoMemory) ⊎ StopsWith (bytes_of self) answer) }
     {
         let Reading {
             draft,

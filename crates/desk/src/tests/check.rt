@@ -209,6 +209,15 @@ fn tells_faults_of_the_folder_and_of_the_output(rt: HostRuntime) -> Result<(), F
             "call {failing}"
         );
     }
+    // A text that is wrong from its first byte on: two reads give its 2,000 bytes, and the third fails.
+    let wrong = "x".repeat(rt.alloc(), 2000)?;
+    let ran = run_words(&rt, &["check", "c"], ("c", wrong.as_str()), &[3], 1000)?;
+    assert_eq!(rt; ran.status.code, 8);
+    let ran = run_words(&rt, &["check", "c"], ("c", wrong.as_str()), &[], 1000)?;
+    assert_eq!(rt;
+        ran.err.bytes(),
+        b"error 12: refused grammar at 0\n".as_slice()
+    );
     let ran = run_words(&rt, &["check", "c"], ("c", ONE_LINE), &[], 5)?;
     assert_eq!(rt; ran.status.code, 9);
     assert_eq!(rt; ran.out.bytes(), b"valid".as_slice());
