@@ -67,7 +67,7 @@ no_arc_fault net rules arc lt =
     ) refl
 
 -- the arc after some of a network's
-next_arc_good : (nodes k : ℕ) (arcs others : List NetArc) (z : NetArc) → IsNetwork (net_of nodes k (arcs ++ z ∷ others)) → arc_faults nodes (tail_before (net_of nodes k arcs) (length arcs)) (length arcs) z ≡ []
+pub next_arc_good : (nodes k : ℕ) (arcs others : List NetArc) (z : NetArc) → IsNetwork (net_of nodes k (arcs ++ z ∷ others)) → arc_faults nodes (tail_before (net_of nodes k arcs) (length arcs)) (length arcs) z ≡ []
 next_arc_good nodes k arcs others z rules =
     let net : NetworkData = net_of nodes k (arcs ++ z ∷ others) in
     let long = length-append arcs (z ∷ others) in

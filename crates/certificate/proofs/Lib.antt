@@ -9,6 +9,8 @@ pub mod ExactNumbers
 pub mod ExactLines
 pub mod ExactJudged
 pub mod LineStops
+pub mod FaultsRead
+pub mod Trails
 pub mod Growth
 pub mod Keeping
 pub mod Memory

@@ -26,7 +26,7 @@ use Rattle.certificate.proofs.ExactJudged.{HasUnits, kind_judged}
 no_units : (d : DraftData) → HasNoRows d → HasUnits d
 no_units d h = record { sum = h.units ∙ sym (ap sum h.demand); few = (let none : d.units ≡ 0 = h.units in omega arith) }
 
-units_at : (s : Stage) (d : DraftData) → IsAtStage s d → HasUnits d
+pub units_at : (s : Stage) (d : DraftData) → IsAtStage s d → HasUnits d
 units_at stage.Title d h = no_units d h
 units_at stage.Nodes d h = no_units d h
 units_at stage.Arcs d h = no_units d h
@@ -119,18 +119,21 @@ faulty_line bytes answer s = record {
 
 -- ---- what is read
 
-none_said : (faults : List Refused) (answer : Refused) → faults ≡ [] → slice_get faults 0 ≡ Some answer → ⊥
+pub none_said : (faults : List Refused) (answer : Refused) → faults ≡ [] → slice_get faults 0 ≡ Some answer → ⊥
 none_said [] answer none said = cc
 none_said (f ∷ fs) answer none said = cc
 
 -- a line that may come next and has no fault is read
-pub good_line : (d : DraftData) (line : Line) (rest : List ℕ) → IsKept d → IsNext d line → line_faults d line ≡ [] → line_at d (line_text line ++ rest) ≡ Ok rest
-good_line d line rest kept next none = elim (some_kind d.stage d) [
+pub good_read : (d : DraftData) (line : Line) (rest : List ℕ) → HasUnits d → IsNext d line → line_faults d line ≡ [] → line_at d (line_text line ++ rest) ≡ Ok rest
+good_read d line rest units next none = elim (some_kind d.stage d) [
   | inl done ↦ absurd (subst (λ s. IsOf (kind_at s d) line) done next)
   | inr some ↦ (
       let shape : shape_at (kind_at d.stage d) (line_text line ++ rest) ≡ Ok (line, rest) = (shape_exact (kind_at d.stage d) some).again line rest next in
-      elim ((kind_judged (kind_at d.stage d) d (units_at d.stage d kept.rows)).right (line_text line ++ rest) line rest shape) [
+      elim ((kind_judged (kind_at d.stage d) d units).right (line_text line ++ rest) line rest shape) [
         | inl w ↦ line_is d.stage d (line_text line ++ rest) ∙ w.1
         | inr w ↦ absurd (none_said (line_faults d line) (refusal_of 0 w.0) none (w.2 0))
       ])
 ]
+
+pub good_line : (d : DraftData) (line : Line) (rest : List ℕ) → IsKept d → IsNext d line → line_faults d line ≡ [] → line_at d (line_text line ++ rest) ≡ Ok rest
+good_line d line rest kept next none = good_read d line rest (units_at d.stage d kept.rows) next none

@@ -41,22 +41,22 @@ number_next d rest kind make word limit limited here n more low short bytes = re
 -- ---- rows
 
 -- the kinds of rows, by how many there are
-kind_demand : (d : DraftData) → d.stage ≡ stage.Rows → d.arc_count ≤ length d.arcs → length d.demand < d.nodes → kind_at d.stage d ≡ cond (length d.demand == d.destination) Kind.NoDemand Kind.Demand
+pub kind_demand : (d : DraftData) → d.stage ≡ stage.Rows → d.arc_count ≤ length d.arcs → length d.demand < d.nodes → kind_at d.stage d ≡ cond (length d.demand == d.destination) Kind.NoDemand Kind.Demand
 kind_demand d rows a g = ap (λ s. kind_at s d) rows ∙ rw (le-ltb (length d.arcs) d.arc_count a, lt-ltb (length d.demand) d.nodes g) refl
 
-kind_label : (d : DraftData) → d.stage ≡ stage.Rows → d.arc_count ≤ length d.arcs → d.nodes ≤ length d.demand → length d.labels < d.nodes → kind_at d.stage d ≡ Kind.Label
+pub kind_label : (d : DraftData) → d.stage ≡ stage.Rows → d.arc_count ≤ length d.arcs → d.nodes ≤ length d.demand → length d.labels < d.nodes → kind_at d.stage d ≡ Kind.Label
 kind_label d rows a g u = ap (λ s. kind_at s d) rows ∙ rw (le-ltb (length d.arcs) d.arc_count a, le-ltb (length d.demand) d.nodes g, lt-ltb (length d.labels) d.nodes u) refl
 
-kind_volume : (d : DraftData) → d.stage ≡ stage.Rows → d.arc_count ≤ length d.arcs → d.nodes ≤ length d.demand → d.nodes ≤ length d.labels → length d.volumes < d.arc_count → kind_at d.stage d ≡ Kind.Volume
+pub kind_volume : (d : DraftData) → d.stage ≡ stage.Rows → d.arc_count ≤ length d.arcs → d.nodes ≤ length d.demand → d.nodes ≤ length d.labels → length d.volumes < d.arc_count → kind_at d.stage d ≡ Kind.Volume
 kind_volume d rows a g u v =
     ap (λ s. kind_at s d) rows ∙ rw (le-ltb (length d.arcs) d.arc_count a, le-ltb (length d.demand) d.nodes g, le-ltb (length d.labels) d.nodes u, lt-ltb (length d.volumes) d.arc_count v) refl
 
-kind_wait : (d : DraftData) → d.stage ≡ stage.Rows → d.arc_count ≤ length d.arcs → d.nodes ≤ length d.demand → d.nodes ≤ length d.labels → d.arc_count ≤ length d.volumes → length d.waits < d.nodes → kind_at d.stage d ≡ Kind.Wait
+pub kind_wait : (d : DraftData) → d.stage ≡ stage.Rows → d.arc_count ≤ length d.arcs → d.nodes ≤ length d.demand → d.nodes ≤ length d.labels → d.arc_count ≤ length d.volumes → length d.waits < d.nodes → kind_at d.stage d ≡ Kind.Wait
 kind_wait d rows a g u v q =
     ap (λ s. kind_at s d) rows
     ∙ rw (le-ltb (length d.arcs) d.arc_count a, le-ltb (length d.demand) d.nodes g, le-ltb (length d.labels) d.nodes u, le-ltb (length d.volumes) d.arc_count v, lt-ltb (length d.waits) d.nodes q) refl
 
-kind_end : (d : DraftData) → d.stage ≡ stage.Rows → d.arc_count ≤ length d.arcs → d.nodes ≤ length d.demand → d.nodes ≤ length d.labels → d.arc_count ≤ length d.volumes → d.nodes ≤ length d.waits → kind_at d.stage d ≡ Kind.End
+pub kind_end : (d : DraftData) → d.stage ≡ stage.Rows → d.arc_count ≤ length d.arcs → d.nodes ≤ length d.demand → d.nodes ≤ length d.labels → d.arc_count ≤ length d.volumes → d.nodes ≤ length d.waits → kind_at d.stage d ≡ Kind.End
 kind_end d rows a g u v q =
     ap (λ s. kind_at s d) rows
     ∙ rw (le-ltb (length d.arcs) d.arc_count a, le-ltb (length d.demand) d.nodes g, le-ltb (length d.labels) d.nodes u, le-ltb (length d.volumes) d.arc_count v, le-ltb (length d.waits) d.nodes q) refl
