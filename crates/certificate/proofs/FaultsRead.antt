@@ -38,6 +38,7 @@ longer (x ∷ short) (y ∷ long) left rest e low =
 
 -- the reading of a line stops, and this is said of it
 pub record ReadsFault (d : DraftData) (bytes : List ℕ) (answer : Refused) : Type 0 where
+  pub more : d.stage ≡ stage.Done → 0 < length bytes
   pub fault : Fault
   pub stops : line_at d bytes ≡ Err fault
   pub says : answer ≡ refusal_of (length (text_so_far d) + length bytes) fault
@@ -52,6 +53,7 @@ number_read d bytes answer kept h = elim (some_kind d.stage d) [
       elim ((kind_judged (kind_at d.stage d) d (units_at d.stage d kept.rows)).right bytes h.line h.rest shape) [
         | inl w ↦ absurd (none_said (line_faults d h.line) answer w.0 h.first)
         | inr w ↦ record {
+          more = λ last. absurd (some (ap (λ s. kind_at s d) last));
           fault = w.0;
           stops = line_is d.stage d bytes ∙ w.1;
           says = (let same : Some answer ≡ Some (refusal_of (length (text_so_far d) + length bytes) w.0) = sym h.first ∙ w.2 (length (text_so_far d) + length bytes) in cc);
@@ -125,6 +127,7 @@ byte_read d bytes answer kept h = elim (some_kind d.stage d) [
           | inr low ↦ elim (cases_lt (length s.before) (length h.before)) [
             | inl lt ↦ absurd (stops_within (shape_at (kind_at d.stage d)) (IsNext d) exact h.within.line s.before h.before h.within.rest s.after h.after h.within.next parts h.within.text lt s.local)
             | inr high ↦ record {
+              more = λ last. absurd (some (ap (λ s. kind_at s d) last));
               fault = g;
               stops = line_is d.stage d bytes ∙ (kind_judged (kind_at d.stage d) d (units_at d.stage d kept.rows)).wrong bytes g e;
               says = h.says ∙ ap refused.Grammar (omega arith) ∙ ap (refusal_of (length (text_so_far d) + length bytes)) (sym s.says);
@@ -138,7 +141,24 @@ pub fault_read : (d : DraftData) (bytes : List ℕ) (answer : Refused) → IsKep
 fault_read d bytes answer kept (inl h) = byte_read d bytes answer kept h
 fault_read d bytes answer kept (inr (inl h)) = number_read d bytes answer kept h
 fault_read d bytes answer kept (inr (inr h)) = record {
+  more = λ last. h.more;
   fault = fault.Stop (length bytes);
   stops = ap (λ s. line_of s d bytes) h.done;
   says = h.says ∙ ap refused.Grammar (omega arith);
 }
+
+-- so the reading of a text with a faulty line stops
+pub stops_at : (bytes : List ℕ) (answer : Refused) → HasFaultyLine bytes answer → StopsWith bytes answer
+stops_at bytes answer h =
+    let read = fault_read h.draft h.rest answer h.kept h.fault in
+    let long : length (text_so_far h.draft) + length h.rest ≡ length bytes = sym (length-append (text_so_far h.draft) h.rest) ∙ ap length h.text in
+    record {
+      draft = h.draft;
+      kept = h.kept;
+      rest = h.rest;
+      text = h.text;
+      more = read.more;
+      fault = read.fault;
+      stops = read.stops;
+      says = read.says ∙ ap (λ n. refusal_of n read.fault) long;
+    }

@@ -11,6 +11,8 @@ pub mod ExactJudged
 pub mod LineStops
 pub mod FaultsRead
 pub mod Trails
+pub mod TrailRows
+pub mod OneFault
 pub mod Growth
 pub mod Keeping
 pub mod Memory
