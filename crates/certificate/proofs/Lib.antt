@@ -13,6 +13,7 @@ pub mod FaultsRead
 pub mod Trails
 pub mod TrailRows
 pub mod OneFault
+pub mod OneRefusal
 pub mod Growth
 pub mod Keeping
 pub mod Memory

@@ -5,6 +5,7 @@ use Rattle.certificate.specs.declared.stage.Stage.TheVariants as stage
 use Rattle.certificate.specs.declared.fault.Fault.{Fault}
 use Rattle.certificate.specs.declared.fault.Fault.TheVariants as fault
 use Rattle.certificate.specs.declared.refused.Refused.{Refused}
+use Rattle.certificate.specs.declared.refused.Refused.TheVariants as refused
 use Rattle.certificate.specs.Draft.{DraftData, text_so_far}
 use Rattle.certificate.specs.NextLine.{line_at}
 use Rattle.certificate.specs.Kept.{IsKept}
@@ -39,6 +40,10 @@ pub record IsUnended (bytes : List ℕ) : Type 0 where
   pub part : List ℕ
   pub text : text_so_far draft ++ part ≡ bytes
   pub stops : line_at draft part ≡ Err (fault.Stop 0)
+
+-- no line of the bytes is faulty: at most they end too early
+abbrev pub HasNoFault : List ℕ → Type 0
+HasNoFault bytes = (answer : Refused) → HasFaultyLine bytes answer → answer ≡ refused.Grammar (length bytes)
 
 -- the bytes are good lines and then one with a fault, or bytes after the last; that they end is none
 pub record HasFault (bytes : List ℕ) (reason : Fault) : Type 0 where
