@@ -14,6 +14,7 @@ pub mod Trails
 pub mod TrailRows
 pub mod OneFault
 pub mod OneRefusal
+pub mod ArcsLine
 pub mod Growth
 pub mod Keeping
 pub mod Memory

@@ -1,6 +1,7 @@
 -- One text has one answer.
 use Rattle.std.proofs.Common.{◌≡◌, ℕ, ◌*◌, ◌<◌, ◌≤◌, List, length, Result, Ok, Err, refl, sym, ap, subst, ◌∙◌, arith, ◌⊎◌, inl, inr, Some, None}
-use Rattle.std.specs.Prelude.{slice_index, IfOk, IfErr}
+use Rattle.std.specs.Prelude.{slice_index}
+use Rattle.std.specs.Result.{IsErrAnd}
 use Rattle.std.proofs.lemmas.Bool.{cases_lt}
 use Rattle.definitions.specs.Network.{tail_of}
 use Rattle.definitions.specs.Dual.{time_through}
@@ -115,7 +116,10 @@ never_both bytes verdict answer h (inr k) =
 
 -- ---- what is answered
 
-pub refused_only : (result : Result Verdict Refused) (bytes : List ℕ) → IfOk result (HasVerdict bytes) → IfErr result (IsRefusedWith bytes) → IsRefusedOnly bytes result
-refused_only (Ok verdict) bytes ok err answer h = never_both bytes verdict answer ok h
-refused_only (Err said) bytes ok (inl memory) answer h = inr memory
-refused_only (Err said) bytes ok (inr k) answer h = inl (one_refusal bytes said answer k h)
+pub refused_only : (result : Result Verdict Refused) (bytes : List ℕ) (answer : Refused) → IsRefusedWith bytes answer → IsErrAnd result (λ e. e ≡ answer) → IsRefusedOnly bytes result
+refused_only (Ok verdict) bytes said why is answer h = absurd is
+refused_only (Err e) bytes said (inl memory) is answer h = inr (is ∙ memory)
+refused_only (Err e) bytes said (inr k) is answer h = inl (is ∙ one_refusal bytes said answer k h)
+
+pub not_refused : (verdict : Verdict) (bytes : List ℕ) → HasVerdict bytes verdict → IsRefusedOnly bytes (Ok verdict)
+not_refused verdict bytes shown answer h = never_both bytes verdict answer shown h

@@ -1,11 +1,14 @@
 -- A text that is fed in pieces.
-use Rattle.std.specs.Prelude.{◌≡◌, ◌≢◌, ℕ, List, ◌++◌, length, Option, Err}
+use Rattle.std.specs.Prelude.{◌≡◌, ◌≢◌, ℕ, List, ◌++◌, length, Option, Err, codes}
+use Rattle.definitions.specs.Decimal.{number_line}
 use Rattle.certificate.specs.declared.stage.Stage.{Stage}
 use Rattle.certificate.specs.declared.stage.Stage.TheVariants as stage
 use Rattle.certificate.specs.declared.fault.Fault.{Fault}
 use Rattle.certificate.specs.declared.fault.Fault.TheVariants as fault
 use Rattle.certificate.specs.declared.refused.Refused.{Refused}
 use Rattle.certificate.specs.declared.refused.Refused.TheVariants as refused
+use Rattle.certificate.specs.Spelling.{title}
+use Rattle.certificate.specs.Grammar.{IsShort}
 use Rattle.certificate.specs.Draft.{DraftData, text_so_far}
 use Rattle.certificate.specs.NextLine.{line_at}
 use Rattle.certificate.specs.Kept.{IsKept}
@@ -32,6 +35,15 @@ IsPastArcs stage.K = Unit {0}
 IsPastArcs stage.Destination = Unit {0}
 IsPastArcs stage.Rows = Unit {0}
 IsPastArcs stage.Done = Unit {0}
+
+-- the bytes begin with the lines up to the number of arcs, whatever these numbers are
+pub record HasArcsLine (bytes : List ℕ) : Type 0 where
+  pub nodes : ℕ
+  pub arcs : ℕ
+  pub short_nodes : IsShort nodes
+  pub short_arcs : IsShort arcs
+  pub rest : List ℕ
+  pub text : bytes ≡ title ++ number_line (codes "nodes") nodes ++ number_line (codes "arcs") arcs ++ rest
 
 -- the bytes are good lines and then the front of a line, which is not ended
 pub record IsUnended (bytes : List ℕ) : Type 0 where

@@ -2,8 +2,8 @@
 
 ghost use Rattle.std.specs.Prelude.{◌≡◌, ◌≢◌, ◌≤◌, ◌++◌, ◌⊎◌, [], None, Some, IfOk, OnOk, IfErr};
 ghost use Rattle.certificate.specs.Valid.{HasVerdict, NoPlanIsCheaperIn, IsOnly, BoundHolds};
-ghost use Rattle.certificate.specs.Refusals.{IsRefusedWith};
-ghost use Rattle.certificate.specs.Fed.{bytes_so_far, IsPastArcs, IsRefusedForGood, IsUnended};
+ghost use Rattle.certificate.specs.Refusals.{IsRefusedOnly, IsRefusedWith};
+ghost use Rattle.certificate.specs.Fed.{bytes_so_far, HasArcsLine, HasNoFault, IsRefusedForGood, IsUnended};
 
 mod reading;
 
@@ -58,6 +58,7 @@ impl Checker {
         // Each line that is ended is good.
         ensures bytes { OnOk result (bytes_so_far self.new ≡ bytes_so_far self.old ++ piece.now) }
         ensures unended { OnOk result (IsUnended (bytes_so_far self.new)) }
+        ensures faultless { OnOk result (HasNoFault (bytes_so_far self.new)) }
         ensures ok { OnOk result ((self.old.refused ≡ None) × (self.new.refused ≡ None)) }
 
         // A line is faulty, and whatever follows, it is the first.
@@ -65,9 +66,8 @@ impl Checker {
         ensures noted { IfErr result (λ answer. self.new.refused ≡ Some answer) }
         ensures same { (answer : Refused) → self.old.refused ≡ Some answer → (result ≡ Err answer) × (self.new ≡ self.old) }
 
-        // Once the line of the number of arcs is read, no memory is wanted.
-        ensures memory { self.old.refused ≡ None → IsPastArcs self.old.draft.stage → result ≢ Err Refused.NoMemory }
-        ensures onward { OnOk result (IsPastArcs self.old.draft.stage → IsPastArcs self.new.draft.stage) }
+        // Once the bytes hold the line of the number of arcs, no memory is wanted.
+        ensures memory { self.old.refused ≡ None → HasArcsLine (bytes_so_far self.old) → result ≢ Err Refused.NoMemory }
     {
         if let Some(refused) = self.refused {
             return Err(refused);
@@ -92,6 +92,7 @@ impl Checker {
         ensures no_plan_is_cheaper { IfOk result (NoPlanIsCheaperIn (bytes_so_far self)) }
         ensures gap { IfOk result (λ verdict. verdict.bound ≤ verdict.cost) }
         ensures refused { self.refused ≡ None → IfErr result (IsRefusedWith (bytes_so_far self)) }
+        ensures refused_only { self.refused ≡ None → IsRefusedOnly (bytes_so_far self) result }
         ensures only { self.refused ≡ None → IsOnly (bytes_so_far self) result }
         ensures bound_holds { IfOk result (λ verdict. BoundHolds (bytes_so_far self) verdict.bound) }
         ensures same { (answer : Refused) → self.refused ≡ Some answer → result ≡ Err answer }

@@ -3,7 +3,7 @@
 ghost use Rattle.std.specs.Prelude.{◌≤◌, IfOk, OnOk, IfErr};
 ghost use Rattle.certificate.specs.Valid.{HasGoodLines, IsValid, HasVerdict, NoPlanIsCheaperIn, IsOnly, BoundHolds};
 ghost use Rattle.certificate.specs.Judged.{IsFirstFailure};
-ghost use Rattle.certificate.specs.Refusals.{IsRefusedWith};
+ghost use Rattle.certificate.specs.Refusals.{IsRefusedOnly, IsRefusedWith, NeverBoth, OneRefusal, OneVerdict};
 
 use crate::checker::Checker;
 use crate::claim::Claim;
@@ -38,6 +38,7 @@ pub fn check_text(alloc: Global, bytes: &[u8]) -> Result<Verdict, Refused>
     ensures valid { IfOk result (HasVerdict bytes.now) }
     ensures no_plan_is_cheaper { IfOk result (NoPlanIsCheaperIn bytes.now) }
     ensures refused { IfErr result (IsRefusedWith bytes.now) }
+    ensures refused_only { IsRefusedOnly bytes.now result }
     ensures only { IsOnly bytes.now result }
     ensures bound_holds { IfOk result (λ verdict. BoundHolds bytes.now verdict.bound) }
     ensures gap { IfOk result (λ verdict. verdict.bound ≤ verdict.cost) }
@@ -46,6 +47,16 @@ pub fn check_text(alloc: Global, bytes: &[u8]) -> Result<Verdict, Refused>
     checker.feed(bytes)?;
     checker.finish()
 }
+
+/// A text has one answer: one verdict at most, one refusal at most, and never both.
+///
+/// It is a theorem about the definitions alone. So what is stated of a text's refusal, or of its
+/// verdict, is stated of all that there are.
+pub fn one_answer()
+    ensures one_verdict { OneVerdict }
+    ensures one_refusal { OneRefusal }
+    ensures never_both { NeverBoth }
+{}
 
 /// Whether the claim's volumes and waits are a plan and its labels dual feasible.
 pub fn judge(claim: &Claim) -> Result<(), Refused>

@@ -13,5 +13,5 @@ mod rows;
 mod stage;
 
 pub use checker::Checker;
-pub use checking::{Verdict, check_text};
+pub use checking::{Verdict, check_text, one_answer};
 pub use refused::{Limit, Refused};
