@@ -1,3 +1,4 @@
 pub mod FileLemmas
 pub mod PrintLemmas
 pub mod FeedLemmas
+pub mod OneOutcome

@@ -1,6 +1,7 @@
 -- What comes of a command. What is said of files holds where the folder tells them.
-use Rattle.std.specs.Prelude.{◌≡◌, ◌≢◌, ℕ, ◌+◌, ◌<◌, ◌≤◌, List, [], length, take, Option, None, Some, IfSome}
+use Rattle.std.specs.Prelude.{◌≡◌, ◌≢◌, ◌⊎◌, ℕ, ◌+◌, ◌<◌, ◌≤◌, List, [], length, take, Option, None, Some, IfSome}
 use Rattle.definitions.specs.declared.limits.TheConstants.{FILE_LIMIT}
+use Rattle.definitions.specs.Causes.{Rose}
 use Rattle.desk_io.specs.Told.{Appends, file_at}
 use Rattle.certificate.specs.declared.checking.Verdict.{Verdict}
 use Rattle.certificate.specs.declared.refused.Refused.{Refused as RefusedText}
@@ -78,3 +79,19 @@ IsOutcome files command (Usage (NoFile path)) output = IsMissing (Some files) co
 IsOutcome files command (Range limit count) output = (limit ≡ File) × (count ≡ FILE_LIMIT + 1) × IsTooLong (Some files) command × (output ≡ [])
 IsOutcome files command (Refused fault) output = IsRefused (Some files) command fault × (output ≡ [])
 IsOutcome files command cause output = ⊥
+
+-- ---- completeness
+
+-- an outcome that is the only one
+pub record IsOnlyOutcome (files : List (List ℕ × List ℕ)) (command : Option Command) (cause : Cause) (output : List ℕ) : Type 0 where
+  pub comes : IsOutcome files command cause output
+  pub alone : (other : Cause) (bytes : List ℕ) → IsOutcome files command other bytes → (other ≡ cause) × (bytes ≡ output)
+
+-- a count did not rise
+abbrev pub DidNotRise : ℕ → ℕ → Type 0
+DidNotRise old new = Rose old new → ⊥
+
+-- the cause is that of the only outcome, and its output was appended, or memory was wanting
+abbrev pub Completes : List (List ℕ × List ℕ) → Option Command → Cause → Option (List ℕ) → Option (List ℕ) → Type 0
+Completes files command cause old new =
+    (cause ≡ NoMemory) ⊎ ((output : List ℕ) × IsOnlyOutcome files command cause output × Appends old new output)

@@ -8,7 +8,7 @@ ghost use Rattle.certificate.specs.declared.refused.Refused.{Refused as RefusedT
 ghost use Rattle.desk.specs.Command.{Check, path_of, command_of};
 ghost use Rattle.desk.specs.Ends.{EndsCheck, EndsPrinting, NamesPath, Unchecked};
 ghost use Rattle.desk.specs.FaultText.{fault_text};
-ghost use Rattle.desk.specs.Outcome.{IsChecked, IsMissing, IsOutcome, IsRefused, IsTooLong, LiesOutside, PrintedInPart, PrintedWhole};
+ghost use Rattle.desk.specs.Outcome.{Completes, DidNotRise, IsChecked, IsMissing, IsOutcome, IsRefused, IsTooLong, LiesOutside, PrintedInPart, PrintedWhole};
 ghost use Rattle.desk.specs.Printing.{Prints};
 ghost use Rattle.desk.specs.Status.{code_of, WritesNothing};
 
@@ -60,6 +60,10 @@ pub fn run<D: Folder, O: Sink, E: Sink>(
     // Over a folder that tells its files, all this in one relation.
     ensures outcome { IfSome (D.files folder.old) (λ files. LiesOutside result.cause ⊎ ((output : List ℕ)
         × IsOutcome files (command_of words.now) result.cause output × Appends (O.written out.old) (O.written out.new) output)) }
+
+    // And where no count rose but that of `err`, just the one outcome that there is, or want of memory.
+    ensures complete { DidNotRise (D.count folder.old) (D.count folder.new) → DidNotRise (O.count out.old) (O.count out.new)
+        → IfSome (D.files folder.old) (λ files. Completes files (command_of words.now) result.cause (O.written out.old) (O.written out.new)) }
 
     // What is appended: the first bytes of the lines where `out` failed, and after the other causes nothing.
     ensures sent { (sent : ℕ) → result.cause ≡ Cause.WriteFault sent
