@@ -15,6 +15,11 @@ pub mod TrailRows
 pub mod OneFault
 pub mod OneRefusal
 pub mod ArcsLine
+pub mod Taking
+pub mod TakingRows
+pub mod Decided
+pub mod EachText
+pub mod NeverMemory
 pub mod Growth
 pub mod Keeping
 pub mod Memory

@@ -41,6 +41,10 @@ IsRefusedOnly bytes result =
 
 -- ---- one text, one answer
 
+-- the text has a verdict or a refusal
+abbrev pub IsAnswered : List ℕ → Type 0
+IsAnswered bytes = ((verdict : Verdict) × HasVerdict bytes verdict) ⊎ ((answer : Refused) × HasRefusal bytes answer)
+
 -- a text has one refusal at most
 abbrev pub OneRefusal : Type 0
 OneRefusal = (bytes : List ℕ) (a b : Refused) → HasRefusal bytes a → HasRefusal bytes b → a ≡ b

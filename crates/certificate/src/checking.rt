@@ -1,9 +1,9 @@
 //! Whether a text is a valid certificate.
 
-ghost use Rattle.std.specs.Prelude.{◌≤◌, IfOk, OnOk, IfErr};
+ghost use Rattle.std.specs.Prelude.{◌≤◌, ℕ, List, IfOk, OnOk, IfErr};
 ghost use Rattle.certificate.specs.Valid.{HasGoodLines, IsValid, HasVerdict, NoPlanIsCheaperIn, IsOnly, BoundHolds};
 ghost use Rattle.certificate.specs.Judged.{IsFirstFailure};
-ghost use Rattle.certificate.specs.Refusals.{IsRefusedOnly, IsRefusedWith, NeverBoth, OneRefusal, OneVerdict};
+ghost use Rattle.certificate.specs.Refusals.{HasRefusal, IsAnswered, IsRefusedOnly, IsRefusedWith, NeverBoth, OneRefusal, OneVerdict};
 
 use crate::checker::Checker;
 use crate::claim::Claim;
@@ -48,11 +48,14 @@ pub fn check_text(alloc: Global, bytes: &[u8]) -> Result<Verdict, Refused>
     checker.finish()
 }
 
-/// A text has one answer: one verdict at most, one refusal at most, and never both.
+/// A text has just one answer: a verdict or a refusal, never both, and of each one at most.
 ///
 /// It is a theorem about the definitions alone. So what is stated of a text's refusal, or of its
-/// verdict, is stated of all that there are.
+/// verdict, is stated of all that there are, and a text without the one has the other. No refusal
+/// that a text has is `NoMemory`.
 pub fn one_answer()
+    ensures answered { (bytes : List ℕ) → IsAnswered bytes }
+    ensures never_memory { (bytes : List ℕ) → HasRefusal bytes Refused.NoMemory → ⊥ }
     ensures one_verdict { OneVerdict }
     ensures one_refusal { OneRefusal }
     ensures never_both { NeverBoth }

@@ -2,3 +2,4 @@ pub mod FileLemmas
 pub mod PrintLemmas
 pub mod FeedLemmas
 pub mod OneOutcome
+pub mod Completeness

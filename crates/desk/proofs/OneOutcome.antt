@@ -149,28 +149,8 @@ one_outcome : (files : List (List ℕ × List ℕ)) (command : Option Command) (
 one_outcome files None a b x y h k = both_are (Usage Words) a b [] x y (for_words files a x h) (for_words files b y k)
 one_outcome files (Some (Check path)) a b x y h k = one_of_file files path (file_at files path) a b x y refl h k
 
-only : (files : List (List ℕ × List ℕ)) (command : Option Command) (cause : Cause) (output : List ℕ) → IsOutcome files command cause output → IsOnlyOutcome files command cause output
+pub only : (files : List (List ℕ × List ℕ)) (command : Option Command) (cause : Cause) (output : List ℕ) → IsOutcome files command cause output → IsOnlyOutcome files command cause output
 only files command cause output h = record {
   comes = h;
   alone = λ other bytes k. (let same = one_outcome files command other cause bytes output k h in (same.cause, same.output));
 }
-
--- ---- a run
-
-inside : (cause : Cause) (Read Wrote : Type 0) → LiesOutside cause → (cause ≡ ReadFault → Read) → ((sent : ℕ) → cause ≡ WriteFault sent → Wrote) → (Read → ⊥) → (Wrote → ⊥) → cause ≡ NoMemory
-inside Done Read Wrote out reads writes folder output = absurd out
-inside (Usage fault) Read Wrote out reads writes folder output = absurd out
-inside (Range limit count) Read Wrote out reads writes folder output = absurd out
-inside ReadFault Read Wrote out reads writes folder output = absurd (folder (reads refl))
-inside (WriteFault sent) Read Wrote out reads writes folder output = absurd (output (writes sent refl))
-inside NoMemory Read Wrote out reads writes folder output = refl
-inside (Refused fault) Read Wrote out reads writes folder output = absurd out
-
-pub complete : (files : Files) (command : Option Command) (cause : Cause) (folder_old folder_new out_old out_new : ℕ) (old new : Option (List ℕ)) →
-    IfSome files (λ told. LiesOutside cause ⊎ ((output : List ℕ) × IsOutcome told command cause output × Appends old new output)) →
-    (cause ≡ ReadFault → Rose folder_old folder_new) → ((sent : ℕ) → cause ≡ WriteFault sent → Rose out_old out_new) →
-    DidNotRise folder_old folder_new → DidNotRise out_old out_new → IfSome files (λ told. Completes told command cause old new)
-complete None command cause folder_old folder_new out_old out_new old new h reads writes folder output = tt
-complete (Some told) command cause folder_old folder_new out_old out_new old new (inl out) reads writes folder output =
-    inl (inside cause (Rose folder_old folder_new) (Rose out_old out_new) out reads writes folder output)
-complete (Some told) command cause folder_old folder_new out_old out_new old new (inr h) reads writes folder output = inr (h.0, only told command cause h.0 h.1, h.2)

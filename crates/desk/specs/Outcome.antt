@@ -91,7 +91,9 @@ pub record IsOnlyOutcome (files : List (List ℕ × List ℕ)) (command : Option
 abbrev pub DidNotRise : ℕ → ℕ → Type 0
 DidNotRise old new = Rose old new → ⊥
 
--- the cause is that of the only outcome, and its output was appended, or memory was wanting
-abbrev pub Completes : List (List ℕ × List ℕ) → Option Command → Cause → Option (List ℕ) → Option (List ℕ) → Type 0
-Completes files command cause old new =
-    (cause ≡ NoMemory) ⊎ ((output : List ℕ) × IsOnlyOutcome files command cause output × Appends old new output)
+-- the command has just one outcome, and it was answered and its output appended, or memory was wanting
+pub record Completes (files : List (List ℕ × List ℕ)) (command : Option Command) (cause : Cause) (old new : Option (List ℕ)) : Type 0 where
+  pub due : Cause
+  pub output : List ℕ
+  pub outcome : IsOnlyOutcome files command due output
+  pub answered : (cause ≡ NoMemory) ⊎ ((cause ≡ due) × Appends old new output)

@@ -1,8 +1,8 @@
 //! Texts in pieces: what is answered is what the whole text is answered, and it comes in time.
 
-use super::{
-    ARC_FAULTS, FAILURES, ONE_LINE, ONE_LINE_VERDICT, RANGES, WRONG_BYTES, one_line, text_with,
-};
+use super::claims::FAILURES;
+use super::lines::{ARC_FAULTS, RANGES, WRONG_BYTES};
+use super::{ONE_LINE, ONE_LINE_VERDICT, one_line, text_with};
 use crate::checker::Checker;
 use crate::checking::Verdict;
 use crate::refused::Refused;
