@@ -17,14 +17,14 @@ use Rattle.certificate.specs.Limits.{greatest}
 use Rattle.certificate.specs.Spelling.{title}
 use Rattle.certificate.specs.Draft.{DraftData, network_so_far, text_before, text_so_far}
 use Rattle.certificate.specs.NextLine.{line_at}
-use Rattle.certificate.specs.Kept.{IsAtStage, IsKept}
+use Rattle.certificate.specs.Kept.{IsKept}
 use Rattle.certificate.specs.Grammar.{Line, line_text, Kind, kind_at, IsOf, IsNext, IsShort, HasNumber}
 use Rattle.certificate.specs.LineFaults.{refused_if, range_faults, arc_refusal, line_faults}
 use Rattle.certificate.specs.Stops.{refusal_of}
 use Rattle.certificate.specs.declared.checker.reading.Reading.{Reading}
 use Rattle.certificate.specs.CheckerFields.{bytes_of, IsReading}
 use Rattle.certificate.specs.Fed.{CheckerData, bytes_so_far, HasArcsLine, IsPastArcs, IsUnended}
-use Rattle.certificate.proofs.ExactLines.{shape_at, shape_exact}
+use Rattle.certificate.proofs.ExactLines.{shape_exact}
 use Rattle.certificate.proofs.KindReaders.{line_is}
 use Rattle.certificate.proofs.ExactJudged.{kind_judged}
 use Rattle.certificate.proofs.LineStops.{units_at, some_kind}

@@ -9,7 +9,7 @@ use Rattle.definitions.specs.Dual.{time_through}
 use Rattle.certificate.specs.declared.refused.Refused.{Refused}
 use Rattle.certificate.specs.declared.refused.Refused.TheVariants as refused
 use Rattle.certificate.specs.Spelling.{Certificate, network_of}
-use Rattle.certificate.specs.Judged.{IsConserved, IsConservedAt, IsUnconserved, IsWaited, IsWaitedAt, IsWaitShort, IsFreeArcKept, AreFreeArcsKept, savings_at, AreLabelsKept, IsLabelKept, IsLabelBroken, IsFirstRefusal, IsFirstFailure}
+use Rattle.certificate.specs.Judged.{IsConserved, IsConservedAt, IsUnconserved, IsWaited, IsWaitedAt, IsWaitShort, IsFreeArcKept, savings_at, AreLabelsKept, IsLabelKept, IsLabelBroken, IsFirstRefusal, IsFirstFailure}
 
 -- ---- the first of a count
 
@@ -43,9 +43,9 @@ conserved_or c node = elim (eqb_tells node c.destination) [
   | inr elsewhere ↦ elim (eqb_tells (due_at (network_of c) 1 c.demand c.volumes node) (flow_out_of (network_of c) c.volumes node)) [
     | inl same ↦ inl (λ other. sym same.1)
     | inr unequal ↦ inr (
-        refused.NotConserved node (due_at (network_of c) 1 c.demand c.volumes node) (flow_out_of (network_of c) c.volumes node),
-        record { elsewhere = elsewhere.1; unequal = unequal.1; says = refl },
-      )
+      refused.NotConserved node (due_at (network_of c) 1 c.demand c.volumes node) (flow_out_of (network_of c) c.volumes node),
+      record { elsewhere = elsewhere.1; unequal = unequal.1; says = refl },
+    )
   ]
 ]
 
@@ -53,9 +53,9 @@ waited_or : (c : Certificate) (arc : ℕ) → IsWaitedAt c arc ⊎ ((answer : Re
 waited_or c arc = elim (tested (is_boarding (network_of c) arc)) [
   | inl boarded ↦ elim (cases_lt (weight_of (network_of c) arc * slice_index c.waits (tail_of (network_of c) arc)) (c.k * slice_index c.volumes arc)) [
     | inl short ↦ inr (
-        refused.WaitShort arc (c.k * slice_index c.volumes arc) (weight_of (network_of c) arc * slice_index c.waits (tail_of (network_of c) arc)),
-        record { boarded = boarded; short = short; says = refl },
-      )
+      refused.WaitShort arc (c.k * slice_index c.volumes arc) (weight_of (network_of c) arc * slice_index c.waits (tail_of (network_of c) arc)),
+      record { boarded = boarded; short = short; says = refl },
+    )
     | inr enough ↦ inl (λ other. enough)
   ]
   | inr free ↦ inl (λ boarded. absurd (not_both (is_boarding (network_of c) arc) boarded free))
@@ -74,9 +74,9 @@ free_or c node arc = elim (eqb_tells (tail_of (network_of c) arc) node) [
     | inl boarded ↦ inl (λ here free. absurd (not_both (is_boarding (network_of c) arc) boarded free))
     | inr free ↦ elim (cases_lt (time_through (network_of c) c.labels arc) (slice_index c.labels node)) [
       | inl above ↦ inr (
-          refused.DualBroken node (Some arc) (slice_index c.labels node) (time_through (network_of c) c.labels arc),
-          record { leaves = leaves.1; free = free; above = above; says = refl },
-        )
+        refused.DualBroken node (Some arc) (slice_index c.labels node) (time_through (network_of c) c.labels arc),
+        record { leaves = leaves.1; free = free; above = above; says = refl },
+      )
       | inr low ↦ inl (λ here other. subst (λ n. slice_index c.labels n ≤ time_through (network_of c) c.labels arc) (sym here) low)
     ]
   ]
@@ -89,15 +89,21 @@ elsewhere_or c node elsewhere = elim (settled (length c.arcs) (λ arc. tail_of (
     | inl above ↦ inr (refused.DualBroken node None (savings_at c node) c.k, inr (elsewhere, inr (record { free = free; above = above; says = refl })))
     | inr low ↦ inl (record { zero = λ here. absurd (elsewhere here); free = λ other. free; boarding = λ other. low })
   ]
-  | inr first ↦ inr (first.0, inr (elsewhere, inl (record {
-    arc = first.1.at;
-    within = first.1.within;
-    leaves = first.1.broken.leaves;
-    free = first.1.broken.free;
-    above = first.1.broken.above;
-    says = first.1.broken.says;
-    first = first.1.kept_before;
-  })))
+  | inr first ↦ inr (
+    first.0,
+    inr (
+      elsewhere,
+      inl (record {
+        arc = first.1.at;
+        within = first.1.within;
+        leaves = first.1.broken.leaves;
+        free = first.1.broken.free;
+        above = first.1.broken.above;
+        says = first.1.broken.says;
+        first = first.1.kept_before;
+      }),
+    ),
+  )
 ]
 
 label_or : (c : Certificate) (node : ℕ) → IsLabelKept c node ⊎ ((answer : Refused) × IsLabelBroken c node answer)

@@ -1,24 +1,23 @@
 -- Each text has an answer: its lines are read to a fault or to the end, and then it is judged.
-use Rattle.std.proofs.Common.{◌≡◌, ℕ, zero, suc, ◌+◌, ◌<◌, ◌≤◌, List, [], ◌∷◌, ◌++◌, length, length-append, Result, Ok, Err, refl, sym, ap, subst, ◌∙◌, arith, ◌⊎◌, inl, inr}
+use Rattle.std.proofs.Common.{◌≡◌, ℕ, zero, suc, ◌<◌, ◌≤◌, List, [], ◌∷◌, ◌++◌, length, length-append, Result, Ok, Err, refl, sym, ap, subst, ◌∙◌, arith, ◌⊎◌, inl, inr}
 use Rattle.std.specs.Prelude.{codes, sum}
 use Rattle.std.specs.List.{flat_map}
 use Rattle.std.proofs.lemmas.List.{append-nil}
 use Rattle.definitions.specs.Decimal.{number_line}
 use Rattle.lp_model.proofs.FaultLemmas.{faultless as network_of_faultless}
-use Rattle.certificate.specs.declared.checking.Verdict.{Verdict}
 use Rattle.certificate.specs.declared.fault.Fault.{Fault}
 use Rattle.certificate.specs.declared.refused.Refused.{Refused}
 use Rattle.certificate.specs.declared.stage.Stage.{Stage}
 use Rattle.certificate.specs.declared.stage.Stage.TheVariants as stage
 use Rattle.certificate.specs.Spelling.{Certificate, title, last_line, arc_line, spelling}
-use Rattle.certificate.specs.Valid.{HasGoodLines, HasVerdict, verdict_of}
+use Rattle.certificate.specs.Valid.{HasGoodLines, verdict_of}
 use Rattle.certificate.specs.Draft.{DraftData, certificate_of, network_so_far, text_before, text_so_far}
 use Rattle.certificate.specs.NextLine.{line_at, line_of}
 use Rattle.certificate.specs.Kept.{IsWhole, IsAtStage, IsKept}
 use Rattle.certificate.specs.Grammar.{Line, line_text, Kind, kind_at, IsOf, IsNext}
 use Rattle.certificate.specs.LineFaults.{line_faults}
 use Rattle.certificate.specs.Stops.{refusal_of}
-use Rattle.certificate.specs.Refusals.{HasFaultyLine, HasRefusal, IsAnswered}
+use Rattle.certificate.specs.Refusals.{HasFaultyLine, IsAnswered}
 use Rattle.certificate.proofs.Faultless.{faultless}
 use Rattle.certificate.proofs.ExactLines.{shape_at, shape_exact}
 use Rattle.certificate.proofs.KindReaders.{reader_at, line_is}
@@ -28,7 +27,7 @@ use Rattle.certificate.proofs.FrontRows.{full_of}
 use Rattle.certificate.proofs.Verdicts.{valid_of}
 use Rattle.certificate.proofs.Trails.{step}
 use Rattle.certificate.proofs.Taking.{IsTaken, take_header}
-use Rattle.certificate.proofs.TakingRows.{take_row}
+use Rattle.certificate.proofs.TakingLast.{take_row}
 use Rattle.certificate.proofs.Decided.{decided}
 
 -- ---- the next line
@@ -76,13 +75,16 @@ Ends bytes = ((answer : Refused) × HasFaultyLine bytes answer) ⊎ ((c : Certif
 
 faulty : (bytes : List ℕ) (d : DraftData) (rest : List ℕ) (f : Fault) → IsKept d → text_so_far d ++ rest ≡ bytes → (d.stage ≡ stage.Done → 0 < length rest) → line_at d rest ≡ Err f → Ends bytes
 faulty bytes d rest f kept text more e =
-    inl (refusal_of (length bytes) f, record {
-      draft = d;
-      kept = kept;
-      rest = rest;
-      text = text;
-      fault = line_fault d rest f (length bytes) kept more e (sym (length-append (text_so_far d) rest) ∙ ap length text);
-    })
+    inl (
+      refusal_of (length bytes) f,
+      record {
+        draft = d;
+        kept = kept;
+        rest = rest;
+        text = text;
+        fault = line_fault d rest f (length bytes) kept more e (sym (length-append (text_so_far d) rest) ∙ ap length text);
+      },
+    )
 
 whole : (bytes : List ℕ) (d : DraftData) → IsKept d → d.stage ≡ stage.Done → text_so_far d ++ [] ≡ bytes → Ends bytes
 whole bytes d kept done text =
@@ -94,19 +96,23 @@ whole bytes d kept done text =
     ++ flat_map (number_line (codes "g")) d.demand ++ flat_map (number_line (codes "u")) d.labels ++ flat_map (number_line (codes "v")) d.volumes ++ flat_map (number_line (codes "q")) d.waits ++ last_line) (sym count) in
     let units : d.units ≡ sum d.demand = h.rows.units in
     let few = h.rows.few_units in
-    inr (certificate_of d, sym text ∙ append-nil (text_so_far d) ∙ ap (λ s. text_before s d) done ∙ spelled, record {
-      network = network_of_faultless (network_so_far d) (faultless d kept.sizes h.rows);
-      destination = h.rows.destination;
-      demand_per_node = full.demand;
-      no_demand_at_destination = h.rows.no_demand;
-      units = omega arith;
-      label_per_node = full.labels;
-      labels = h.rows.labels;
-      volume_per_arc = full.volumes ∙ sym count;
-      volumes = h.rows.volumes;
-      wait_per_node = full.waits;
-      waits = h.rows.waits;
-    })
+    inr (
+      certificate_of d,
+      sym text ∙ append-nil (text_so_far d) ∙ ap (λ s. text_before s d) done ∙ spelled,
+      record {
+        network = network_of_faultless (network_so_far d) (faultless d kept.sizes h.rows);
+        destination = h.rows.destination;
+        demand_per_node = full.demand;
+        no_demand_at_destination = h.rows.no_demand;
+        units = omega arith;
+        label_per_node = full.labels;
+        labels = h.rows.labels;
+        volume_per_arc = full.volumes ∙ sym count;
+        volumes = h.rows.volumes;
+        wait_per_node = full.waits;
+        waits = h.rows.waits;
+      },
+    )
 
 stopped : (bytes : List ℕ) (d : DraftData) (rest : List ℕ) (f : Fault) → IsKept d → text_so_far d ++ rest ≡ bytes → line_at d rest ≡ Err f → Ends bytes
 stopped bytes d rest f kept text e = elim (some_kind d.stage d) [

@@ -1,5 +1,5 @@
 -- Where a fault of the form stands, the reading of the line stops, and says so.
-use Rattle.std.proofs.Common.{◌≡◌, ℕ, ◌+◌, ◌-◌, ◌<◌, ◌≤◌, List, [], ◌∷◌, ◌++◌, length, Some, Result, Ok, Err, refl, sym, ap, subst, ◌∙◌, append_assoc, arith, length-append, ◌⊎◌, inl, inr}
+use Rattle.std.proofs.Common.{◌≡◌, ℕ, ◌+◌, ◌<◌, ◌≤◌, List, [], ◌∷◌, ◌++◌, length, Some, Result, Ok, Err, refl, sym, ap, subst, ◌∙◌, append_assoc, arith, length-append, inl, inr}
 use Rattle.std.proofs.lemmas.Bool.{cases_lt}
 use Rattle.std.proofs.lemmas.List.{append-nil}
 use Rattle.certificate.specs.declared.fault.Fault.{Fault}
@@ -11,13 +11,13 @@ use Rattle.certificate.specs.Draft.{DraftData, text_so_far}
 use Rattle.certificate.specs.NextLine.{line_of, line_at}
 use Rattle.certificate.specs.Kept.{IsKept}
 use Rattle.certificate.specs.Grammar.{Line, line_text, Kind, kind_at, IsOf, IsNext}
-use Rattle.certificate.specs.LineFaults.{line_faults, HasWrongNumber, BeginsNoLine, StopsAfter, HasWrongByte, HasByteAfterEnd, IsLineFault}
+use Rattle.certificate.specs.LineFaults.{line_faults, HasWrongNumber, BeginsNoLine, StopsAfter, HasWrongByte, IsLineFault}
 use Rattle.certificate.specs.Stops.{refusal_of, StopsWith}
 use Rattle.certificate.specs.Refusals.{HasFaultyLine}
 use Rattle.certificate.proofs.Readers.{done, failed, ok_is}
-use Rattle.certificate.proofs.Exact.{IsErr, IsExact, StopsIn}
+use Rattle.certificate.proofs.Exact.{IsErr, IsExact}
 use Rattle.certificate.proofs.ExactLines.{shape_at, shape_exact}
-use Rattle.certificate.proofs.KindReaders.{reader_at, line_is}
+use Rattle.certificate.proofs.KindReaders.{line_is}
 use Rattle.certificate.proofs.ExactJudged.{kind_judged}
 use Rattle.certificate.proofs.LineStops.{units_at, some_kind, none_said}
 

@@ -12,11 +12,13 @@ pub mod LineStops
 pub mod FaultsRead
 pub mod Trails
 pub mod TrailRows
+pub mod DraftTrail
 pub mod OneFault
 pub mod OneRefusal
 pub mod ArcsLine
 pub mod Taking
 pub mod TakingRows
+pub mod TakingLast
 pub mod Decided
 pub mod EachText
 pub mod NeverMemory

@@ -1,5 +1,5 @@
 -- No text has want of memory for its refusal.
-use Rattle.std.proofs.Common.{◌≡◌, ℕ, ◌+◌, ◌==◌, Bool, true, false, List, [], ◌∷◌, ◌++◌, length, Option, None, Some, All, ◌⊎◌, inl, inr, refl, sym, ◌∙◌}
+use Rattle.std.proofs.Common.{◌≡◌, ℕ, ◌+◌, ◌==◌, Bool, true, false, List, [], ◌∷◌, ◌++◌, length, Option, None, Some, All, inl, inr, refl, sym, ◌∙◌}
 use Rattle.std.specs.Prelude.{◌≢◌, map, nat_lt, nat_le, sum, slice_get}
 use Rattle.std.proofs.lemmas.List.Elements.{All-nil, All-cons, All-append, All-head}
 use Rattle.definitions.specs.declared.arc.NetArc.{NetArc}

@@ -1,5 +1,5 @@
 -- One text has one answer.
-use Rattle.std.proofs.Common.{◌≡◌, ℕ, ◌*◌, ◌<◌, ◌≤◌, List, length, Result, Ok, Err, refl, sym, ap, subst, ◌∙◌, arith, ◌⊎◌, inl, inr, Some, None}
+use Rattle.std.proofs.Common.{◌≡◌, ℕ, ◌<◌, List, length, Result, Ok, Err, sym, ap, subst, ◌∙◌, arith, inl, inr, Some}
 use Rattle.std.specs.Prelude.{slice_index}
 use Rattle.std.specs.Result.{IsErrAnd}
 use Rattle.std.proofs.lemmas.Bool.{cases_lt}
@@ -8,9 +8,9 @@ use Rattle.definitions.specs.Dual.{time_through}
 use Rattle.certificate.specs.declared.checking.Verdict.{Verdict}
 use Rattle.certificate.specs.declared.refused.Refused.{Refused}
 use Rattle.certificate.specs.declared.refused.Refused.TheVariants as refused
-use Rattle.certificate.specs.Spelling.{Certificate, network_of, spelling}
+use Rattle.certificate.specs.Spelling.{Certificate, network_of}
 use Rattle.certificate.specs.Valid.{IsValid, HasVerdict, verdict_of}
-use Rattle.certificate.specs.Judged.{IsConserved, IsConservedAt, IsUnconserved, IsWaitedAt, IsWaitShort, IsFreeArcKept, IsLabelKept, IsFreeArcBroken, IsLabelBroken, IsFirstRefusal, IsFirstWaitShort, IsFirstLabelBroken, IsFirstFailure}
+use Rattle.certificate.specs.Judged.{IsConservedAt, IsUnconserved, IsWaitedAt, IsWaitShort, IsLabelKept, IsFreeArcBroken, IsLabelBroken, IsFirstRefusal, IsFirstFailure}
 use Rattle.certificate.specs.Refusals.{HasFaultyLine, HasFailure, HasRefusal, IsRefusedWith, IsRefusedOnly}
 use Rattle.certificate.proofs.Spelled.{no_stop}
 use Rattle.certificate.proofs.Unique.{one_certificate, holds}

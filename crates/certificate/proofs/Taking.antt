@@ -1,30 +1,25 @@
 -- A good line that may come next is taken into a draft, which keeps what drafts keep.
-use Rattle.std.proofs.Common.{◌≡◌, ℕ, None, ◌+◌, ◌<◌, ◌≤◌, ◌==◌, List, [], ◌∷◌, ◌++◌, length, All, refl, sym, ap, subst, ◌∙◌, arith, inl, inr}
+use Rattle.std.proofs.Common.{◌≡◌, ℕ, None, ◌<◌, ◌≤◌, List, [], ◌∷◌, ◌++◌, length, All, refl, sym, ap, subst, ◌∙◌, arith, inl, inr}
 use Rattle.std.specs.Prelude.{codes, map, nat_le, sum, slice_index}
 use Rattle.std.proofs.lemmas.Bool.{lt-ltb, le-leb, cases_lt}
-use Rattle.std.proofs.lemmas.Bool.Decides.{eqb_tells}
-use Rattle.std.proofs.lemmas.List.{get_or_append_left, get_or_push, get_or_past, length_push}
-use Rattle.std.proofs.lemmas.List.Elements.{All-nil, All-push}
-use Rattle.definitions.specs.declared.limits.TheConstants.{UNIT_LIMIT, LABEL_LIMIT, VOLUME_LIMIT, WAIT_LIMIT}
+use Rattle.std.proofs.lemmas.List.Elements.{All-nil}
+use Rattle.definitions.specs.declared.limits.TheConstants.{LABEL_LIMIT, VOLUME_LIMIT, WAIT_LIMIT}
 use Rattle.definitions.specs.Decimal.{number_line}
 use Rattle.lp_model.specs.declared.fault.NetFault.{NetFault}
 use Rattle.lp_model.specs.declared.fault.NetFault.TheVariants as net_fault
-use Rattle.lp_model.specs.Faults.{arc_faults, tail_before}
 use Rattle.certificate.specs.declared.refused.Limit.{Limit}
 use Rattle.certificate.specs.declared.refused.Limit.TheVariants as limit
 use Rattle.certificate.specs.declared.refused.Refused.TheVariants as refused
 use Rattle.certificate.specs.declared.stage.Stage.{Stage}
 use Rattle.certificate.specs.declared.stage.Stage.TheVariants as stage
 use Rattle.certificate.specs.Limits.{greatest}
-use Rattle.certificate.specs.Spelling.{title, last_line, arc_line}
-use Rattle.certificate.specs.Draft.{DraftData, network_so_far, Took}
-use Rattle.certificate.specs.Kept.{HasSizes, HasNoRows, IsInOrder, HasRows, IsWhole, IsAtStage, IsKept}
-use Rattle.certificate.specs.Grammar.{Line, line_text, Kind, kind_at, HasNumber, IsOf, IsNext}
+use Rattle.certificate.specs.Spelling.{title}
+use Rattle.certificate.specs.Draft.{DraftData, Took}
+use Rattle.certificate.specs.Kept.{HasNoRows, IsAtStage, IsKept}
+use Rattle.certificate.specs.Grammar.{Line, line_text, kind_at, IsOf}
 use Rattle.certificate.specs.LineFaults.{refused_if, range_faults, arc_refusal, line_faults}
-use Rattle.certificate.proofs.Keeping.{arc_keeps}
-use Rattle.certificate.proofs.Growth.{title_took, nodes_took, arcs_took, k_took, destination_took, end_took, arc_took, demand_took, label_took, volume_took, wait_took}
-use Rattle.certificate.proofs.NextLines.{kind_demand, kind_label, kind_volume, kind_wait, kind_end}
-use Rattle.certificate.proofs.Trails.{step, sum_push}
+use Rattle.certificate.proofs.Growth.{title_took, nodes_took, arcs_took, k_took, destination_took}
+use Rattle.certificate.proofs.Trails.{step}
 
 -- the line goes from the front of the bytes into the draft
 pub record IsTaken (d : DraftData) (line : Line) (rest : List ℕ) : Type 0 where

@@ -1,40 +1,40 @@
--- A good row is taken into a draft, and so is the last line.
-use Rattle.std.proofs.Common.{◌≡◌, ℕ, ◌+◌, ◌<◌, ◌≤◌, ◌==◌, Bool, true, false, cond, List, [], ◌∷◌, ◌++◌, length, All, refl, sym, ap, subst, ◌∙◌, arith, ◌⊎◌, inl, inr}
+-- A good arc, demand or label is taken into a draft.
+use Rattle.std.proofs.Common.{◌≡◌, ℕ, ◌+◌, ◌<◌, ◌≤◌, ◌==◌, Bool, true, false, cond, List, [], ◌∷◌, ◌++◌, length, refl, sym, ap, subst, ◌∙◌, arith, inl, inr}
 use Rattle.std.specs.Prelude.{codes, sum, slice_index}
 use Rattle.std.proofs.lemmas.Bool.{lt-ltb, cases_lt}
 use Rattle.std.proofs.lemmas.Bool.Decides.{eqb_tells}
 use Rattle.std.proofs.lemmas.List.{get_or_append_left, get_or_push, get_or_past, length_push}
 use Rattle.std.proofs.lemmas.List.Elements.{All-push}
-use Rattle.definitions.specs.declared.limits.TheConstants.{LABEL_LIMIT, VOLUME_LIMIT, WAIT_LIMIT}
+use Rattle.definitions.specs.declared.limits.TheConstants.{LABEL_LIMIT}
 use Rattle.definitions.specs.Decimal.{number_line}
 use Rattle.lp_model.specs.Faults.{arc_faults, tail_before}
 use Rattle.certificate.specs.declared.refused.Limit.TheVariants as limit
 use Rattle.certificate.specs.declared.stage.Stage.TheVariants as stage
-use Rattle.certificate.specs.Spelling.{last_line, arc_line}
+use Rattle.certificate.specs.Spelling.{arc_line}
 use Rattle.certificate.specs.Draft.{DraftData, network_so_far}
-use Rattle.certificate.specs.Kept.{HasSizes, HasRows, IsWhole, IsAtStage, IsKept}
+use Rattle.certificate.specs.Kept.{HasSizes, HasRows, IsAtStage, IsKept}
 use Rattle.certificate.specs.Grammar.{Line, Kind, kind_at, HasNumber, HasArc, IsOf, IsNext}
 use Rattle.certificate.specs.LineFaults.{line_faults}
 use Rattle.certificate.proofs.Keeping.{arc_keeps}
-use Rattle.certificate.proofs.Growth.{end_took, arc_took, demand_took, label_took, volume_took, wait_took}
-use Rattle.certificate.proofs.NextLines.{kind_demand, kind_label, kind_volume, kind_wait, kind_end}
+use Rattle.certificate.proofs.Growth.{arc_took, demand_took, label_took}
+use Rattle.certificate.proofs.NextLines.{kind_demand, kind_label}
 use Rattle.certificate.proofs.Trails.{step, sum_push}
 use Rattle.certificate.proofs.Taking.{IsTaken, in_limit, no_arc_faults}
 
 -- a draft at the rows
-record IsAtRows (d : DraftData) : Type 0 where
-  at : d.stage ≡ stage.Rows
-  kept : IsKept d
-  rows : HasRows d
+pub record IsAtRows (d : DraftData) : Type 0 where
+  pub at : d.stage ≡ stage.Rows
+  pub kept : IsKept d
+  pub rows : HasRows d
 
-kept_rows : (new : DraftData) → new.stage ≡ stage.Rows → HasSizes new → HasRows new → IsKept new
+pub kept_rows : (new : DraftData) → new.stage ≡ stage.Rows → HasSizes new → HasRows new → IsKept new
 kept_rows new e sizes rows = record { sizes = sizes; rows = subst (λ s. IsAtStage s new) (sym e) rows }
 
 -- the line is of the kind that comes next
-of_kind : (d : DraftData) (kind : Kind) (line : Line) → kind_at d.stage d ≡ kind → IsNext d line → IsOf kind line
+pub of_kind : (d : DraftData) (kind : Kind) (line : Line) → kind_at d.stage d ≡ kind → IsNext d line → IsOf kind line
 of_kind d kind line here next = subst (λ k. IsOf k line) here next
 
-take_arc : (d : DraftData) (line : Line) (rest : List ℕ) → IsAtRows d → length d.arcs < d.arc_count → IsNext d line → line_faults d line ≡ [] → IsTaken d line rest
+pub take_arc : (d : DraftData) (line : Line) (rest : List ℕ) → IsAtRows d → length d.arcs < d.arc_count → IsNext d line → line_faults d line ≡ [] → IsTaken d line rest
 take_arc d line rest h lt next none =
     let arc : HasArc line = of_kind d Kind.Arc line (ap (λ s. kind_at s d) h.at ∙ rw (lt-ltb (length d.arcs) d.arc_count lt) refl) next in
     let good : arc_faults d.nodes (tail_before (network_so_far d) (length d.arcs)) (length d.arcs) arc.arc ≡ [] = no_arc_faults _ (subst (λ l. line_faults d l ≡ []) arc.is none) in
@@ -65,7 +65,7 @@ demand_zero xs n at none zero = elim (cases_lt at (length xs)) [
   ]
 ]
 
-take_demand : (d : DraftData) (line : Line) (rest : List ℕ) → IsAtRows d → d.arc_count ≤ length d.arcs → length d.demand < d.nodes → IsNext d line → line_faults d line ≡ [] → IsTaken d line rest
+pub take_demand : (d : DraftData) (line : Line) (rest : List ℕ) → IsAtRows d → d.arc_count ≤ length d.arcs → length d.demand < d.nodes → IsNext d line → line_faults d line ≡ [] → IsTaken d line rest
 take_demand d line rest h a lt next none =
     let here : Bool = length d.demand == d.destination in
     let is : IsDemand d line = demand_of d line here refl (tells (length d.demand) d.destination here refl) (of_kind d (cond here Kind.NoDemand Kind.Demand) line (kind_demand d h.at a lt) next) in
@@ -99,7 +99,7 @@ take_demand d line rest h a lt next none =
       took = demand_took d n (d.units + n) (number_line (codes "g") n ++ rest) rest h.at rows lt refl;
     })
 
-take_label : (d : DraftData) (line : Line) (rest : List ℕ) → IsAtRows d → d.arc_count ≤ length d.arcs → d.nodes ≤ length d.demand → length d.labels < d.nodes → IsNext d line → line_faults d line ≡ [] → IsTaken d line rest
+pub take_label : (d : DraftData) (line : Line) (rest : List ℕ) → IsAtRows d → d.arc_count ≤ length d.arcs → d.nodes ≤ length d.demand → length d.labels < d.nodes → IsNext d line → line_faults d line ≡ [] → IsTaken d line rest
 take_label d line rest h a g lt next none =
     let is : HasNumber Line.Label line = of_kind d Kind.Label line (kind_label d h.at a g lt) next in
     let n : ℕ = is.number in
@@ -130,125 +130,3 @@ take_label d line rest h a g lt next none =
       });
       took = label_took d n (number_line (codes "u") n ++ rest) rest h.at rows lt refl;
     })
-
-take_volume : (d : DraftData) (line : Line) (rest : List ℕ) → IsAtRows d → d.arc_count ≤ length d.arcs → d.nodes ≤ length d.demand → d.nodes ≤ length d.labels → length d.volumes < d.arc_count → IsNext d line → line_faults d line ≡ [] →
-    IsTaken d line rest
-take_volume d line rest h a g u lt next none =
-    let is : HasNumber Line.Volume line = of_kind d Kind.Volume line (kind_volume d h.at a g u lt) next in
-    let n : ℕ = is.number in
-    let rows = h.rows in
-    let low : n ≤ VOLUME_LIMIT = in_limit limit.Volume n (subst (λ l. line_faults d l ≡ []) is.is none) in
-    let long : length (d.volumes ++ n ∷ []) ≡ length d.volumes + 1 = length_push d.volumes n in
-    subst (λ l. IsTaken d l rest) (sym is.is) (record {
-      kept = kept_rows (step d (Line.Volume n)) h.at (record { nodes = h.kept.sizes.nodes; arcs = h.kept.sizes.arcs; k = h.kept.sizes.k }) (record {
-        order = record {
-          arcs = rows.order.arcs;
-          demand = rows.order.demand;
-          labels = rows.order.labels;
-          volumes = omega arith;
-          waits = rows.order.waits;
-          arcs_first = rows.order.arcs_first;
-          demand_then = rows.order.demand_then;
-          labels_then = λ few. absurd (omega arith);
-          volumes_then = λ few. rows.order.volumes_then lt;
-        };
-        destination = rows.destination;
-        arcs = rows.arcs;
-        no_demand = rows.no_demand;
-        units = rows.units;
-        few_units = rows.few_units;
-        labels = rows.labels;
-        volumes = All-push (λ x. x ≤ VOLUME_LIMIT) d.volumes n rows.volumes low;
-        waits = rows.waits;
-      });
-      took = volume_took d n (number_line (codes "v") n ++ rest) rest h.at rows lt refl;
-    })
-
-take_wait : (d : DraftData) (line : Line) (rest : List ℕ) → IsAtRows d → d.arc_count ≤ length d.arcs → d.nodes ≤ length d.demand → d.nodes ≤ length d.labels → d.arc_count ≤ length d.volumes → length d.waits < d.nodes → IsNext d line →
-    line_faults d line ≡ [] → IsTaken d line rest
-take_wait d line rest h a g u v lt next none =
-    let is : HasNumber Line.Wait line = of_kind d Kind.Wait line (kind_wait d h.at a g u v lt) next in
-    let n : ℕ = is.number in
-    let rows = h.rows in
-    let low : n ≤ WAIT_LIMIT = in_limit limit.Wait n (subst (λ l. line_faults d l ≡ []) is.is none) in
-    let long : length (d.waits ++ n ∷ []) ≡ length d.waits + 1 = length_push d.waits n in
-    subst (λ l. IsTaken d l rest) (sym is.is) (record {
-      kept = kept_rows (step d (Line.Wait n)) h.at (record { nodes = h.kept.sizes.nodes; arcs = h.kept.sizes.arcs; k = h.kept.sizes.k }) (record {
-        order = record {
-          arcs = rows.order.arcs;
-          demand = rows.order.demand;
-          labels = rows.order.labels;
-          volumes = rows.order.volumes;
-          waits = omega arith;
-          arcs_first = rows.order.arcs_first;
-          demand_then = rows.order.demand_then;
-          labels_then = λ few. absurd (omega arith);
-          volumes_then = λ few. absurd (omega arith);
-        };
-        destination = rows.destination;
-        arcs = rows.arcs;
-        no_demand = rows.no_demand;
-        units = rows.units;
-        few_units = rows.few_units;
-        labels = rows.labels;
-        volumes = rows.volumes;
-        waits = All-push (λ x. x ≤ WAIT_LIMIT) d.waits n rows.waits low;
-      });
-      took = wait_took d n (number_line (codes "q") n ++ rest) rest h.at refl;
-    })
-
-take_end : (d : DraftData) (line : Line) (rest : List ℕ) → IsAtRows d → d.arc_count ≤ length d.arcs → d.nodes ≤ length d.demand → d.nodes ≤ length d.labels → d.arc_count ≤ length d.volumes → d.nodes ≤ length d.waits → IsNext d line → IsTaken d line rest
-take_end d line rest h a g u v q next =
-    let is : line ≡ Line.End = of_kind d Kind.End line (kind_end d h.at a g u v q) next in
-    let rows = h.rows in
-    let most = rows.order.waits in
-    subst (λ l. IsTaken d l rest) (sym is) (record {
-      kept = record {
-        sizes = record { nodes = h.kept.sizes.nodes; arcs = h.kept.sizes.arcs; k = h.kept.sizes.k };
-        rows = record {
-          rows = record {
-            order = record {
-              arcs = rows.order.arcs;
-              demand = rows.order.demand;
-              labels = rows.order.labels;
-              volumes = rows.order.volumes;
-              waits = rows.order.waits;
-              arcs_first = rows.order.arcs_first;
-              demand_then = rows.order.demand_then;
-              labels_then = rows.order.labels_then;
-              volumes_then = rows.order.volumes_then;
-            };
-            destination = rows.destination;
-            arcs = rows.arcs;
-            no_demand = rows.no_demand;
-            units = rows.units;
-            few_units = rows.few_units;
-            labels = rows.labels;
-            volumes = rows.volumes;
-            waits = rows.waits;
-          };
-          last = omega arith;
-        };
-      };
-      took = end_took d (last_line ++ rest) rest h.at refl;
-    })
-
-pub take_row : (d : DraftData) (line : Line) (rest : List ℕ) → d.stage ≡ stage.Rows → IsKept d → IsNext d line → line_faults d line ≡ [] → IsTaken d line rest
-take_row d line rest e kept next none =
-    let h : IsAtRows d = record { at = e; kept = kept; rows = subst (λ s. IsAtStage s d) e kept.rows } in
-    elim (cases_lt (length d.arcs) d.arc_count) [
-      | inl lt ↦ take_arc d line rest h lt next none
-      | inr a ↦ elim (cases_lt (length d.demand) d.nodes) [
-        | inl lt ↦ take_demand d line rest h a lt next none
-        | inr g ↦ elim (cases_lt (length d.labels) d.nodes) [
-          | inl lt ↦ take_label d line rest h a g lt next none
-          | inr u ↦ elim (cases_lt (length d.volumes) d.arc_count) [
-            | inl lt ↦ take_volume d line rest h a g u lt next none
-            | inr v ↦ elim (cases_lt (length d.waits) d.nodes) [
-              | inl lt ↦ take_wait d line rest h a g u v lt next none
-              | inr q ↦ take_end d line rest h a g u v q next
-            ]
-          ]
-        ]
-      ]
-    ]

@@ -12,14 +12,14 @@ use Rattle.certificate.specs.declared.refused.Limit.{Limit}
 use Rattle.certificate.specs.declared.refused.Limit.TheVariants as limit
 use Rattle.certificate.specs.declared.stage.Stage.TheVariants as stage
 use Rattle.certificate.specs.Limits.{greatest}
-use Rattle.certificate.specs.Draft.{DraftData, certificate_of, network_so_far}
-use Rattle.certificate.specs.Kept.{HasSizes, IsInOrder, HasRows}
-use Rattle.certificate.specs.Grammar.{Line, Kind, kind_at, IsShort, HasNumber, IsOf}
+use Rattle.certificate.specs.Draft.{DraftData, network_so_far}
+use Rattle.certificate.specs.Kept.{HasSizes, HasRows}
+use Rattle.certificate.specs.Grammar.{Line, Kind, kind_at, IsShort, IsOf}
 use Rattle.certificate.specs.LineFaults.{arc_refusal}
 use Rattle.certificate.proofs.Keeping.{net_of}
 use Rattle.certificate.proofs.Faultless.{faultless}
 use Rattle.certificate.proofs.Fronts.{HasShortNumbers, has_arc}
-use Rattle.certificate.proofs.FrontHeader.{AreShort, short_rows}
+use Rattle.certificate.proofs.FrontHeader.{short_rows}
 use Rattle.certificate.proofs.Advancing.{next_of, in_range, middle, next_arc_good}
 use Rattle.certificate.proofs.NextLines.{IsLimited, kind_demand, kind_label, kind_volume, kind_wait}
 use Rattle.certificate.proofs.Trails.{step, Follows, Runs, run_on, fill, sum_push}

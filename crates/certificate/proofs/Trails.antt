@@ -1,5 +1,5 @@
 -- Lines that follow one another from a draft on, and that one text has no two of them.
-use Rattle.std.proofs.Common.{◌≡◌, ℕ, ◌+◌, ◌<◌, ◌≤◌, List, [], ◌∷◌, ◌++◌, length, Result, Ok, Err, refl, sym, ap, subst, ◌∙◌, append_assoc, arith, inl, inr}
+use Rattle.std.proofs.Common.{◌≡◌, ℕ, ◌+◌, ◌≤◌, List, [], ◌∷◌, ◌++◌, Ok, Err, refl, sym, ap, subst, ◌∙◌, append_assoc, arith, inl, inr}
 use Rattle.std.specs.Prelude.{sum, map}
 use Rattle.std.specs.List.{flat_map}
 use Rattle.std.proofs.lemmas.Bool.{cases_lt, lt-ltb}
@@ -12,10 +12,9 @@ use Rattle.certificate.specs.declared.refused.Refused.TheVariants as refused
 use Rattle.certificate.specs.declared.stage.Stage.TheVariants as stage
 use Rattle.certificate.specs.Draft.{DraftData}
 use Rattle.certificate.specs.NextLine.{line_at}
-use Rattle.certificate.specs.Grammar.{Line, line_text, Kind, kind_at, IsOf, IsNext}
+use Rattle.certificate.specs.Grammar.{Line, line_text, kind_at, IsOf, IsNext}
 use Rattle.certificate.specs.LineFaults.{range_faults, line_faults}
 use Rattle.certificate.proofs.Readers.{done, failed, ok_is}
-use Rattle.certificate.proofs.Exact.{IsExact}
 use Rattle.certificate.proofs.ExactLines.{shape_at, shape_exact}
 use Rattle.certificate.proofs.ExactJudged.{HasUnits}
 use Rattle.certificate.proofs.LineStops.{some_kind, good_read}

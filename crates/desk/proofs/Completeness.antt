@@ -1,11 +1,10 @@
 -- Each command has an outcome over a folder's files, and where no count rose it is answered.
-use Rattle.std.proofs.Common.{◌≡◌, ℕ, ◌+◌, ◌<◌, ◌≤◌, List, [], ◌⊎◌, inl, inr, length, Option, None, Some, refl}
+use Rattle.std.proofs.Common.{◌≡◌, ℕ, ◌+◌, List, [], ◌⊎◌, inl, inr, length, Option, None, Some, refl}
 use Rattle.std.specs.Prelude.{IfSome}
 use Rattle.std.proofs.lemmas.Bool.{cases_lt}
 use Rattle.definitions.specs.declared.limits.TheConstants.{FILE_LIMIT}
 use Rattle.definitions.specs.Causes.{Rose}
 use Rattle.desk_io.specs.Told.{Appends, file_at}
-use Rattle.certificate.specs.declared.refused.Refused.TheVariants as refused
 use Rattle.certificate.specs.Refusals.{IsAnswered}
 use Rattle.certificate.proofs.Verdicts.{lower_bound}
 use Rattle.certificate.proofs.EachText.{answered}
@@ -16,7 +15,7 @@ use Rattle.desk.specs.declared.status.Cause.{Cause}
 use Rattle.desk.specs.declared.status.Cause.TheVariants.{Done, Usage, Range, ReadFault, WriteFault, NoMemory, Refused}
 use Rattle.desk.specs.Command.{Command, Check}
 use Rattle.desk.specs.Output.{verdict_lines}
-use Rattle.desk.specs.Outcome.{Files, IsRead, LiesOutside, IsOutcome, IsOnlyOutcome, DidNotRise, Completes}
+use Rattle.desk.specs.Outcome.{Files, IsRead, LiesOutside, IsOutcome, DidNotRise, Completes}
 use Rattle.desk.proofs.OneOutcome.{only}
 
 -- ---- each command has an outcome

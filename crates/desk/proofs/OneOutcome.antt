@@ -1,10 +1,8 @@
 -- A command has one outcome over a folder's files.
-use Rattle.std.proofs.Common.{◌≡◌, ℕ, ◌+◌, ◌<◌, ◌≤◌, List, [], ◌⊎◌, inl, inr, length, Option, None, Some, refl, sym, ap, subst, ◌∙◌, arith}
-use Rattle.std.specs.Prelude.{IfSome}
+use Rattle.std.proofs.Common.{◌≡◌, ℕ, ◌+◌, ◌<◌, ◌≤◌, List, [], inl, inr, length, Option, None, Some, refl, sym, ap, subst, ◌∙◌, arith}
 use Rattle.std.proofs.lemmas.Bool.{cases_lt}
 use Rattle.definitions.specs.declared.limits.TheConstants.{FILE_LIMIT}
-use Rattle.definitions.specs.Causes.{Rose}
-use Rattle.desk_io.specs.Told.{Appends, file_at}
+use Rattle.desk_io.specs.Told.{file_at}
 use Rattle.certificate.specs.declared.checking.Verdict.{Verdict}
 use Rattle.certificate.specs.declared.refused.Refused.{Refused as RefusedText}
 use Rattle.certificate.specs.Valid.{HasVerdict}
@@ -16,7 +14,7 @@ use Rattle.desk.specs.declared.status.Cause.{Cause}
 use Rattle.desk.specs.declared.status.Cause.TheVariants.{Done, Usage, Range, ReadFault, WriteFault, NoMemory, Refused}
 use Rattle.desk.specs.Command.{Command, Check}
 use Rattle.desk.specs.Output.{verdict_lines}
-use Rattle.desk.specs.Outcome.{Files, IsRead, IsChecked, IsRefused, LiesOutside, IsOutcome, IsOnlyOutcome, DidNotRise, Completes}
+use Rattle.desk.specs.Outcome.{IsRead, IsOutcome, IsOnlyOutcome}
 
 -- a cause and an output
 record Same (a b : Cause) (x y : List ℕ) : Type 0 where

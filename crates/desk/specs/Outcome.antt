@@ -87,7 +87,7 @@ pub record IsOnlyOutcome (files : List (List ℕ × List ℕ)) (command : Option
   pub comes : IsOutcome files command cause output
   pub alone : (other : Cause) (bytes : List ℕ) → IsOutcome files command other bytes → (other ≡ cause) × (bytes ≡ output)
 
--- a count did not rise
+-- a count did not rise: it is as it was, and does not stand at its last value
 abbrev pub DidNotRise : ℕ → ℕ → Type 0
 DidNotRise old new = Rose old new → ⊥
 

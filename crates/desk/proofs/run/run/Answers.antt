@@ -1,10 +1,4 @@
-use Rattle.std.proofs.Common.{rules, ◌≡◌, ◌⊎◌, ℕ, List}
-use Rattle.std.specs.Prelude.{IfSome}
-use Rattle.definitions.specs.Causes.{Rose}
-use Rattle.desk_io.specs.Told.{Appends}
-use Rattle.desk.specs.declared.status.Cause.TheVariants.{ReadFault, WriteFault}
-use Rattle.desk.specs.Command.{command_of}
-use Rattle.desk.specs.Outcome.{IsOutcome, LiesOutside}
+use Rattle.std.proofs.Common.{rules}
 use Rattle.desk.proofs.Completeness.{complete}
 use Rattle.desk.proofs.run.run.Goals as goal
 
