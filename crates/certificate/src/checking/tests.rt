@@ -1,5 +1,6 @@
 //! Whole texts: what is answered, with values worked out by hand from the format.
 
+mod limits;
 mod pieces;
 
 use super::{Verdict, check_text};
