@@ -1,8 +1,8 @@
 //! Short texts that are gathered into few writes.
 
-ghost use Rattle.std.specs.Prelude.{◌≡◌, ◌+◌, ◌<◌, ◌≤◌, [], length, OnOk, OnErr, IfErr};
+ghost use Rattle.std.specs.Prelude.{◌≡◌, ◌≤◌, [], OnOk, OnErr, IfErr};
 ghost use Rattle.definitions.specs.Causes.{Rose};
-ghost use Rattle.desk_io.specs.Gathering.{Sends, Stops, given, nothing_gathered};
+ghost use Rattle.desk_io.specs.Gathering.{Sends, Stops, nothing_gathered};
 
 use super::outside::{Counted, Sink};
 use super::whole::{WriteFault, write_all};
@@ -42,10 +42,10 @@ impl Gathered {
 
     /// Gives a text to the sink: it waits where there is room for it.
     ///
-    /// Where a write fails, `sent` counts the bytes that were sent of all texts so far.
+    /// Where a write fails, `sent` counts the bytes that were sent of all texts so far, up to the
+    /// last value of a usize.
     #[tactic(auto, using(crate::proofs::GatheringLemmas::sends_then, crate::proofs::GatheringLemmas::stops_then, crate::proofs::GatheringLemmas::stops_within, crate::proofs::GatheringLemmas::sends_none))]
     pub fn write<S: Sink>(&mut self, sink: &mut S, text: &[u8]) -> Result<(), WriteFault>
-        requires count { given self.old + length text.now ≤ 18446744073709551615 }
         ensures ok { OnOk result (Sends (S.written sink.old) self.old (S.written sink.new) self.new text.now) }
         ensures err { IfErr result (λ fault. Stops (S.written sink.old) self.old (S.written sink.new) text.now fault.sent) }
         ensures write_cause { OnErr result (Rose (S.count sink.old) (S.count sink.new)) }
@@ -64,9 +64,9 @@ impl Gathered {
 
     /// Sends what waits.
     ///
-    /// Where a write fails, `sent` counts the bytes that were sent of all texts so far.
+    /// Where a write fails, `sent` counts the bytes that were sent of all texts so far, up to the
+    /// last value of a usize.
     pub fn flush<S: Sink>(&mut self, sink: &mut S) -> Result<(), WriteFault>
-        requires count { given self.old ≤ 18446744073709551615 }
         ensures ok { OnOk result (Sends (S.written sink.old) self.old (S.written sink.new) self.new []) }
         ensures empty { OnOk result (self.new.waiting ≡ []) }
         ensures err { IfErr result (λ fault. Stops (S.written sink.old) self.old (S.written sink.new) [] fault.sent) }
@@ -76,12 +76,12 @@ impl Gathered {
     {
         match write_all(sink, self.waiting.as_slice()) {
             Ok(()) => {
-                self.sent += self.waiting.len();
+                self.sent = self.sent.saturating_add(self.waiting.len());
                 self.waiting.clear();
                 Ok(())
             }
             Err(fault) => Err(WriteFault {
-                sent: self.sent + fault.sent,
+                sent: self.sent.saturating_add(fault.sent),
             }),
         }
     }
@@ -89,7 +89,6 @@ impl Gathered {
     // Sends a text past which nothing waits.
     fn send<S: Sink>(&mut self, sink: &mut S, text: &[u8]) -> Result<(), WriteFault>
         requires empty { self.old.waiting ≡ [] }
-        requires count { given self.old + length text.now ≤ 18446744073709551615 }
         ensures ok { OnOk result (Sends (S.written sink.old) self.old (S.written sink.new) self.new text.now) }
         ensures err { IfErr result (λ fault. Stops (S.written sink.old) self.old (S.written sink.new) text.now fault.sent) }
         ensures write_cause { OnErr result (Rose (S.count sink.old) (S.count sink.new)) }
@@ -98,11 +97,11 @@ impl Gathered {
     {
         match write_all(sink, text) {
             Ok(()) => {
-                self.sent += text.len();
+                self.sent = self.sent.saturating_add(text.len());
                 Ok(())
             }
             Err(fault) => Err(WriteFault {
-                sent: self.sent + fault.sent,
+                sent: self.sent.saturating_add(fault.sent),
             }),
         }
     }
