@@ -45,3 +45,5 @@ pub mod FedLemmas
 pub mod ForGood
 pub mod PartLemmas
 mod KnownValues
+pub mod WritingLemmas
+pub mod WrittenLength

@@ -13,7 +13,7 @@ use Rattle.certificate.specs.Draft.{DraftData, text_so_far, text_before, up_to_n
 use Rattle.certificate.specs.Kept.{HasSizes, HasRows, IsAtStage, IsKept}
 
 -- no more bytes than so many
-abbrev IsWithin : ℕ → List ℕ → Type 0
+abbrev pub IsWithin : ℕ → List ℕ → Type 0
 IsWithin most bytes = length bytes ≤ most
 
 both : (a b : ℕ) (xs ys : List ℕ) → IsWithin a xs → IsWithin b ys → IsWithin (a + b) (xs ++ ys)
@@ -33,7 +33,7 @@ numeral_few : (n : ℕ) → IsWithin 64 (decimal n)
 unfolding digits
 numeral_few n = onto_few 64 10 false n []
 
-line_few : (word : List ℕ) (w : ℕ) → IsWithin w word → (n : ℕ) → IsWithin (w + 1 + 64 + 1) (number_line word n)
+pub line_few : (word : List ℕ) (w : ℕ) → IsWithin w word → (n : ℕ) → IsWithin (w + 1 + 64 + 1) (number_line word n)
 line_few word w short n =
     both (w + 1 + 64) 1 (word ++ codes " " ++ numeral n) (10 ∷ [])
     (both (w + 1) 64 (word ++ codes " ") (numeral n) (both w 1 word (codes " ") short (omega arith)) (numeral_few n)) (omega arith)
@@ -42,7 +42,7 @@ weight_few : (w : Option ℕ) → IsWithin 64 (weight_text w)
 weight_few None = omega arith
 weight_few (Some n) = numeral_few n
 
-arc_few : (arc : NetArc) → IsWithin 262 (arc_line arc)
+pub arc_few : (arc : NetArc) → IsWithin 262 (arc_line arc)
 arc_few arc =
     let whole = parts (codes "a ") (numeral arc.tail) (codes " ") (numeral arc.head) (numeral arc.cost) (weight_text arc.weight) (10 ∷ []) in
     let tail = numeral_few arc.tail in
@@ -56,7 +56,7 @@ arc_few arc =
     parts a t s h c w n = simp length-append
 
 -- the rows of a kind
-rows_few : {X : Type 0} (f : X → List ℕ) → ((x : X) → IsWithin 262 (f x)) → (xs : List X) → length (flat_map f xs) ≤ 262 * length xs
+pub rows_few : {X : Type 0} (f : X → List ℕ) → ((x : X) → IsWithin 262 (f x)) → (xs : List X) → length (flat_map f xs) ≤ 262 * length xs
 rows_few f h [] = omega arith
 rows_few f h (x ∷ xs) =
     let e = length-append (f x) (flat_map f xs) in

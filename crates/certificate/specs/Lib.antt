@@ -1,4 +1,6 @@
 pub mod Spelling
+pub mod NetworkText
+pub mod Parts
 pub mod Valid
 pub mod Bytes
 pub mod Limits

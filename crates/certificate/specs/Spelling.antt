@@ -20,6 +20,19 @@ pub record Certificate : Type 0 where
 abbrev pub network_of : Certificate → NetworkData
 network_of c = record { nodes = c.nodes; arcs = c.arcs; k = c.k }
 
+-- the certificate of a network
+abbrev pub certificate_of : NetworkData → ℕ → List ℕ → List ℕ → List ℕ → List ℕ → Certificate
+certificate_of net destination demand labels volumes waits = record {
+  nodes = net.nodes;
+  k = net.k;
+  destination = destination;
+  arcs = net.arcs;
+  demand = demand;
+  labels = labels;
+  volumes = volumes;
+  waits = waits;
+}
+
 -- the first line
 abbrev pub title : List ℕ
 title = codes "assignment-certificate 1" ++ line_end

@@ -11,7 +11,9 @@ mod lines;
 mod refused;
 mod rows;
 mod stage;
+mod writing;
 
 pub use checker::Checker;
 pub use checking::{Verdict, check_text, one_answer};
 pub use refused::{Limit, Refused};
+pub use writing::{write_certificate, write_network};

@@ -1,3 +1,4 @@
 pub mod Told
 pub mod InMemory
 pub mod Begun
+pub mod Gathering

@@ -2,6 +2,7 @@
 //! of failed calls that shows the cause of each failure.
 #![tactic(auto)]
 
+mod gathered;
 mod memory_folder;
 mod memory_sink;
 mod memory_source;
@@ -12,6 +13,7 @@ mod script;
 mod texts;
 mod whole;
 
+pub use gathered::Gathered;
 pub use memory_folder::MemoryFolder;
 pub use memory_sink::MemorySink;
 pub use memory_source::MemorySource;

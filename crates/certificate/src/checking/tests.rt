@@ -1,6 +1,7 @@
 //! Whole texts: what is answered, with values worked out by hand from the format.
 
 mod claims;
+mod limits;
 mod lines;
 mod pieces;
 

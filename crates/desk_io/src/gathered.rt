@@ -1,0 +1,145 @@
+//! Short texts that are gathered into few writes.
+
+ghost use Rattle.std.specs.Prelude.{◌≡◌, ◌≤◌, [], OnOk, OnErr, IfErr};
+ghost use Rattle.definitions.specs.Causes.{Rose};
+ghost use Rattle.desk_io.specs.Gathering.{Sends, Stops, nothing_gathered};
+
+use super::outside::{Counted, Sink};
+use super::whole::{WriteFault, write_all};
+use arrayvec::ArrayVec;
+use std::marker::Model;
+
+// The greatest number of bytes that wait.
+const ROOM: usize = 4096;
+
+/// Bytes that wait for a sink, so that many short texts are few writes. It takes no memory.
+///
+/// All texts of one `Gathered` go to one sink. `flush` stands at the end of them.
+#[derive(Drop)]
+pub struct Gathered {
+    waiting: ArrayVec<u8, ROOM>,
+    sent: usize,
+}
+
+impl Model for Gathered {
+    ghost use Rattle.desk_io.specs.Gathering.{Gathering};
+
+    ghost Value = { Gathering };
+
+    ghost view = { λ g. record { waiting = g.waiting.items; sent = g.sent } };
+}
+
+impl Gathered {
+    /// Nothing waits.
+    pub fn new() -> Gathered
+        ensures value { result ≡ nothing_gathered }
+    {
+        Gathered {
+            waiting: ArrayVec::new(),
+            sent: 0,
+        }
+    }
+
+    /// Gives a text to the sink: it waits where there is room for it.
+    ///
+    /// Where a write fails, `sent` counts the bytes that were sent of all texts so far, up to the
+    /// last value of a usize.
+    #[tactic(auto, using(crate::proofs::GatheringLemmas::sends_then, crate::proofs::GatheringLemmas::stops_then, crate::proofs::GatheringLemmas::stops_within, crate::proofs::GatheringLemmas::sends_none))]
+    pub fn write<S: Sink>(&mut self, sink: &mut S, text: &[u8]) -> Result<(), WriteFault>
+        ensures ok { OnOk result (Sends (S.written sink.old) self.old (S.written sink.new) self.new text.now) }
+        ensures err { IfErr result (λ fault. Stops (S.written sink.old) self.old (S.written sink.new) text.now fault.sent) }
+        ensures write_cause { OnErr result (Rose (S.count sink.old) (S.count sink.new)) }
+        ensures count { S.count sink.old ≤ S.count sink.new }
+        ensures rest { S.keeps_sink_rest sink.old sink.new }
+    {
+        if self.waiting.try_extend_from_slice(text).is_ok() {
+            return Ok(());
+        }
+        self.flush(sink)?;
+        if self.waiting.try_extend_from_slice(text).is_ok() {
+            return Ok(());
+        }
+        self.send(sink, text)
+    }
+
+    /// Sends what waits.
+    ///
+    /// Where a write fails, `sent` counts the bytes that were sent of all texts so far, up to the
+    /// last value of a usize.
+    pub fn flush<S: Sink>(&mut self, sink: &mut S) -> Result<(), WriteFault>
+        ensures ok { OnOk result (Sends (S.written sink.old) self.old (S.written sink.new) self.new []) }
+        ensures empty { OnOk result (self.new.waiting ≡ []) }
+        ensures err { IfErr result (λ fault. Stops (S.written sink.old) self.old (S.written sink.new) [] fault.sent) }
+        ensures write_cause { OnErr result (Rose (S.count sink.old) (S.count sink.new)) }
+        ensures count { S.count sink.old ≤ S.count sink.new }
+        ensures rest { S.keeps_sink_rest sink.old sink.new }
+    {
+        match write_all(sink, self.waiting.as_slice()) {
+            Ok(()) => {
+                self.sent = self.sent.saturating_add(self.waiting.len());
+                self.waiting.clear();
+                Ok(())
+            }
+            Err(fault) => Err(WriteFault {
+                sent: self.sent.saturating_add(fault.sent),
+            }),
+        }
+    }
+
+    // Sends a text past which nothing waits.
+    fn send<S: Sink>(&mut self, sink: &mut S, text: &[u8]) -> Result<(), WriteFault>
+        requires empty { self.old.waiting ≡ [] }
+        ensures ok { OnOk result (Sends (S.written sink.old) self.old (S.written sink.new) self.new text.now) }
+        ensures err { IfErr result (λ fault. Stops (S.written sink.old) self.old (S.written sink.new) text.now fault.sent) }
+        ensures write_cause { OnErr result (Rose (S.count sink.old) (S.count sink.new)) }
+        ensures count { S.count sink.old ≤ S.count sink.new }
+        ensures rest { S.keeps_sink_rest sink.old sink.new }
+    {
+        match write_all(sink, text) {
+            Ok(()) => {
+                self.sent = self.sent.saturating_add(text.len());
+                Ok(())
+            }
+            Err(fault) => Err(WriteFault {
+                sent: self.sent.saturating_add(fault.sent),
+            }),
+        }
+    }
+}
+
+#[cfg(test)]
+mod tests {
+    use super::*;
+    use crate::memory_sink::MemorySink;
+    use std::test::Fail;
+
+    // Texts of these lengths, of the letters a, b, .., into so much room: the bytes that are
+    // written, and the answer to the last call. 4,096 bytes wait at most.
+    #[test]
+    fn texts_arrive_in_order(rt: HostRuntime) -> Result<(), Fail> {
+        let cases: [(&[usize], usize, Result<(), usize>); 6] = [
+            (&[], 10_000, Ok(())),
+            (&[3, 0, 2], 10_000, Ok(())),
+            (&[4000, 96, 1], 10_000, Ok(())),
+            (&[10, 5000, 20], 10_000, Ok(())),
+            (&[3, 4], 5, Err(5)),
+            (&[10, 5000, 20], 5009, Err(5009)),
+        ];
+        for (lengths, room, answer) in cases {
+            let mut sink = MemorySink::new(rt.alloc(), room, 1000, Vec::new(rt.alloc()))?;
+            let mut whole = Vec::new(rt.alloc());
+            let mut gathered = Gathered::new();
+            let mut got = Ok(());
+            for (i, length) in lengths.iter().enumerate() {
+                let text = vec![in rt.alloc(); b'a' + i as u8; *length]?;
+                whole.extend_from_slice(&text)?;
+                got = got.and(gathered.write(&mut sink, &text));
+            }
+            got = got.and(gathered.flush(&mut sink));
+            assert_eq!(rt; got.map_err(|fault| fault.sent), answer, "{room}");
+            let sent = answer.err().unwrap_or(whole.len());
+            assert_eq!(rt; sink.bytes(), &whole[..sent], "{room}");
+        }
+        Ok(())
+    }
+}
