@@ -5,3 +5,6 @@ pub mod Grouped
 pub mod TotalsLemmas
 pub mod KnownValues
 pub mod FourStops
+pub mod KnownSplits
+pub mod KnownLabels
+pub mod KnownVolumes
