@@ -66,9 +66,9 @@ cut_off-elsewhere (suc (suc (suc node))) lt here = absurd (omega arith)
 pub cut_off-labels : SolvesLabels cut_off 1 cut_off_reached cut_off_labels
 cut_off-labels = record { label_per_node = refl; zero_at_destination = refl; reaching = cut_off-reaching; elsewhere = cut_off-elsewhere }
 
--- ---- two equal lines beside a walk to their stop
--- A wait of 1800000000 / 12000 ticks for either line and the ride of 600000 make 750000; walks of 5 and 1 ticks lead on from nodes 0 and 2,
--- of which node 2 walks to node 0 and so on to node 1.
+-- ---- two equal lines from a stop, and walks to it
+-- A wait of 1800000000 / 12000 ticks for either line and the ride of 600000 make 750000 at node 1. A walk of 5 ticks leads to it
+-- from node 0, and one of 1 tick from node 2 to node 0.
 
 abbrev pub walk_to_lines : NetworkData
 walk_to_lines = record {
@@ -129,8 +129,25 @@ walk_to_lines-labels = record {
 }
 
 -- node 3 first, then nodes 1, 0 and 2
+abbrev pub walk_to_lines_order : List ℕ
+walk_to_lines_order = 3 ∷ 1 ∷ 0 ∷ 2 ∷ []
+
+walk_to_lines-placed : (place : ℕ) → place < 4 → IsTrue (is_reached walk_to_lines_reached (slice_index walk_to_lines_order place))
+walk_to_lines-placed zero lt = refl
+walk_to_lines-placed (suc zero) lt = refl
+walk_to_lines-placed (suc (suc zero)) lt = refl
+walk_to_lines-placed (suc (suc (suc zero))) lt = refl
+walk_to_lines-placed (suc (suc (suc (suc place)))) lt = absurd (omega arith)
+
+walk_to_lines-all : (node : ℕ) → IsTrue (is_reached walk_to_lines_reached node) → (place : ℕ) × (place < 4) × (slice_index walk_to_lines_order place ≡ node)
+walk_to_lines-all zero here = (2 , lit< tt , refl)
+walk_to_lines-all (suc zero) here = (1 , lit< tt , refl)
+walk_to_lines-all (suc (suc zero)) here = (3 , lit< tt , refl)
+walk_to_lines-all (suc (suc (suc zero))) here = (0 , lit< tt , refl)
+walk_to_lines-all (suc (suc (suc (suc node)))) here = absurd cc
+
 walk_to_lines-sorted : (place later : ℕ) → place < later → later < 4 →
-    StandsBefore walk_to_lines_labels (slice_index (3 ∷ 1 ∷ 0 ∷ 2 ∷ []) place) (slice_index (3 ∷ 1 ∷ 0 ∷ 2 ∷ []) later)
+    StandsBefore walk_to_lines_labels (slice_index walk_to_lines_order place) (slice_index walk_to_lines_order later)
 walk_to_lines-sorted zero (suc zero) before lt = inl (lit< tt)
 walk_to_lines-sorted zero (suc (suc zero)) before lt = inl (lit< tt)
 walk_to_lines-sorted zero (suc (suc (suc zero))) before lt = inl (lit< tt)
@@ -138,3 +155,14 @@ walk_to_lines-sorted (suc zero) (suc (suc zero)) before lt = inl (lit< tt)
 walk_to_lines-sorted (suc zero) (suc (suc (suc zero))) before lt = inl (lit< tt)
 walk_to_lines-sorted (suc (suc zero)) (suc (suc (suc zero))) before lt = inl (lit< tt)
 walk_to_lines-sorted place later before lt = absurd (omega arith)
+
+pub walk_to_lines-order : IsOrder walk_to_lines_reached walk_to_lines_labels walk_to_lines_order
+walk_to_lines-order = record { reaching = walk_to_lines-placed; all = walk_to_lines-all; sorted = walk_to_lines-sorted }
+
+-- of two nodes with one label that of the lower number stands before the other, and not the other way
+lower_first : StandsBefore (7 ∷ 7 ∷ []) 0 1
+lower_first = inr (refl , lit< tt)
+
+not_higher_first : StandsBefore (7 ∷ 7 ∷ []) 1 0 → ⊥
+not_higher_first (inl less) = omega arith
+not_higher_first (inr same) = let below : 1 < 0 = same.1 in omega arith

@@ -8,7 +8,7 @@ use Rattle.definitions.specs.Split.{share}
 abbrev pub shares : ℕ → List ℕ → List ℕ
 shares units weights = map (share units (slice_index weights) (range_with_len 0 (length weights))) (range_with_len 0 (length weights))
 
--- even shares
+-- quotas that are whole
 even_split : shares 10 (6000 ∷ 4000 ∷ []) ≡ 6 ∷ 4 ∷ []
 even_split = refl
 
@@ -31,6 +31,6 @@ no_units_split = refl
 greatest_split : shares 1000000000000000 (4294967295 ∷ 4294967295 ∷ []) ≡ 500000000000000 ∷ 500000000000000 ∷ []
 greatest_split = refl
 
--- three quotas of 1.4, 2.8 and 2.8 hold five whole units, and the two left go to the second and the third
+-- quotas of 1.4, 2.8 and 2.8 hold five whole units, and the two left go to the second and the third number
 mixed_split : shares 7 (1 ∷ 2 ∷ 2 ∷ []) ≡ 1 ∷ 3 ∷ 3 ∷ []
 mixed_split = refl

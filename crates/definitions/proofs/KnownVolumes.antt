@@ -1,16 +1,18 @@
 -- Values worked out by hand, which the definitions of choices, volumes and waits give.
 -- Two lines of 10 departures together: a wait of 1800000000 / 10000 = 180000 ticks, and the mean ride of 6 * 600000 + 4 * 900000
 -- over 10, which is 720000, make the label of 900000. The slower line leads on in just this label, so ten units split 6 to 4.
-use Rattle.std.proofs.Common.{◌≡◌, ℕ, zero, suc, ◌*◌, ◌<◌, ◌≤◌, Bool, List, [], ◌∷◌, refl, arith, lit≤, IsTrue}
-use Rattle.std.specs.Prelude.{true, slice_index}
+use Rattle.std.proofs.Common.{◌≡◌, ℕ, zero, suc, ◌*◌, ◌<◌, ◌≤◌, Bool, List, [], ◌∷◌, refl, arith, lit≤, lit<, IsTrue}
+use Rattle.std.specs.Prelude.{true, IsFalse, slice_index}
 use Rattle.definitions.specs.declared.choice.Choice.{Choice}
 use Rattle.definitions.specs.declared.choice.Choice.TheVariants.{Stop, Walk, Wait}
 use Rattle.definitions.specs.Network.{NetworkData, tail_of, is_boarding}
 use Rattle.definitions.specs.Plan.{IsWaitedFor, cost_of_plan}
 use Rattle.definitions.specs.Dual.{bound_of_labels}
 use Rattle.definitions.specs.Choice.{choice_at}
-use Rattle.definitions.specs.Volumes.{part_of, units_at, SolvesVolumes, IsLongEnough, AreLeastWaits}
+use Rattle.definitions.specs.Volumes.{part_of, units_at, SolvesVolumes, IsLongEnough, AreLeastWaits, IsCarried}
+use Rattle.definitions.specs.Reach.{is_reached}
 use Rattle.definitions.proofs.KnownValues.{boarded, free}
+use Rattle.definitions.proofs.KnownLabels.{walk_to_lines, walk_to_lines_reached, walk_to_lines_labels, cut_off, cut_off_reached}
 
 abbrev pub two_lines : NetworkData
 two_lines = record { nodes = 2; arcs = (boarded 0 1 600000 6000) ∷ (boarded 0 1 900000 4000) ∷ []; k = 1800000000 }
@@ -85,3 +87,59 @@ walk_beside_line = record { nodes = 2; arcs = (boarded 0 1 600000 6000) ∷ (fre
 
 walk_beside_line-choice : choice_at walk_beside_line 1 two_lines_reached two_lines_labels 0 ≡ Walk 1
 walk_beside_line-choice = refl
+
+-- ---- walks to a stop of two equal lines
+-- One unit walks from node 0 and two from node 2 by node 0, so three come to node 1, and split 2 to 1: the remainders are equal.
+-- The wait covers two units on one line, 1800000000 * 2 / 6000. Cost: 3 * 5 + 3 * 600000 + 2 * 1 + 600000.
+
+abbrev pub walkers : List ℕ
+walkers = 1 ∷ 0 ∷ 2 ∷ 0 ∷ []
+
+abbrev pub walkers_volumes : List ℕ
+walkers_volumes = 3 ∷ 2 ∷ 1 ∷ 2 ∷ []
+
+abbrev pub walkers_waits : List ℕ
+walkers_waits = 0 ∷ 600000 ∷ 0 ∷ 0 ∷ []
+
+walkers-parts : (arc : ℕ) → arc < 4 → slice_index walkers_volumes arc ≡
+    part_of walk_to_lines walk_to_lines_reached walk_to_lines_labels (choice_at walk_to_lines 3 walk_to_lines_reached walk_to_lines_labels (tail_of walk_to_lines arc))
+      (units_at walk_to_lines walkers walkers_volumes (tail_of walk_to_lines arc)) arc
+walkers-parts zero lt = refl
+walkers-parts (suc zero) lt = refl
+walkers-parts (suc (suc zero)) lt = refl
+walkers-parts (suc (suc (suc zero))) lt = refl
+walkers-parts (suc (suc (suc (suc arc)))) lt = absurd (omega arith)
+
+pub walkers-volumes : SolvesVolumes walk_to_lines 3 walk_to_lines_reached walk_to_lines_labels walkers walkers_volumes
+walkers-volumes = record { volume_per_arc = refl; parts = walkers-parts }
+
+walkers-cost : cost_of_plan walk_to_lines walkers_volumes walkers_waits ≡ 2400017
+walkers-cost = refl
+
+walkers-bound : bound_of_labels walkers walk_to_lines_labels ≡ 2250017
+walkers-bound = refl
+
+-- ---- a wait that is rounded up, and demand where no way leads on
+
+-- 1800000000 / 7000 is 257142 and 6000 / 7000
+rounded-least : (wait : ℕ) → IsWaitedFor cut_off (1 ∷ []) 0 wait → 257143 ≤ wait
+rounded-least wait h = omega arith
+
+rounded-enough : IsWaitedFor cut_off (1 ∷ []) 0 257143
+rounded-enough = lit≤ tt
+
+cut_off-only_reaching : (node : ℕ) → node < 3 → IsFalse (is_reached cut_off_reached node) → slice_index (1 ∷ 0 ∷ 0 ∷ []) node ≡ 0
+cut_off-only_reaching zero lt here = absurd cc
+cut_off-only_reaching (suc zero) lt here = refl
+cut_off-only_reaching (suc (suc zero)) lt here = refl
+cut_off-only_reaching (suc (suc (suc node))) lt here = absurd (omega arith)
+
+pub cut_off-carried : IsCarried cut_off 1 cut_off_reached (1 ∷ 0 ∷ 0 ∷ [])
+cut_off-carried = record { demand_per_node = refl; none_at_destination = refl; only_reaching = cut_off-only_reaching }
+
+one_is_not_none : (n : ℕ) → n ≡ 1 → n ≡ 0 → ⊥
+one_is_not_none n one none = omega arith
+
+-- a unit at the node that is cut off can't be carried
+cut_off-not_carried : IsCarried cut_off 1 cut_off_reached (0 ∷ 0 ∷ 1 ∷ []) → ⊥
+cut_off-not_carried carried = one_is_not_none (slice_index (0 ∷ 0 ∷ 1 ∷ []) 2) refl (carried.only_reaching 2 (lit< tt) refl)

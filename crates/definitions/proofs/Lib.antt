@@ -8,3 +8,4 @@ pub mod FourStops
 pub mod KnownSplits
 pub mod KnownLabels
 pub mod KnownVolumes
+pub mod FourStopsLabels

@@ -1,4 +1,5 @@
--- What passengers choose at a node on their way to a destination: the strategy of Spiess and Florian 1989.
+-- What passengers choose at a node on their way to a destination: one free arc, or to wait for the attractive boarding arcs.
+-- After Spiess and Florian 1989. Here: docs/FORMATS.md.
 use Rattle.std.specs.Prelude.{ℕ, ◌==◌, nat_le, Bool, not, ◌&&◌, ◌||◌, List, [], ◌∷◌, length, filter, sum_by, slice_index, if◌then◌else◌}
 use Rattle.definitions.specs.declared.choice.Choice.{Choice}
 use Rattle.definitions.specs.declared.choice.Choice.TheVariants.{Stop, Walk, Wait}
@@ -24,7 +25,7 @@ attractive_arcs net reached labels node = filter (is_attractive net reached labe
 abbrev pub wait_for : NetworkData → List ℕ → Choice
 wait_for net arcs = Wait (length arcs) (sum_by (weight_of net) arcs)
 
--- to walk along the first of some arcs, or the other choice where there is none
+-- to take the first of some free arcs, or the other choice where there is none
 abbrev pub walk_or : Choice → List ℕ → Choice
 walk_or other [] = other
 walk_or other (arc ∷ _) = Walk arc

@@ -1,5 +1,5 @@
--- The labels of a destination: for each node the greatest whole number that its arcs permit.
--- Spiess and Florian 1989 find them by an order of arcs; here they are the solution of equations, in whole ticks.
+-- The labels of a destination: expected times to it in whole ticks, rounded down, as the solution of equations.
+-- After Spiess and Florian 1989. Here: docs/FORMATS.md. Marks tell which nodes reach the destination: those of IsReach.
 use Rattle.std.specs.Prelude.{◌≡◌, ◌≢◌, ℕ, ◌<◌, ◌≤◌, ◌⊎◌, Bool, List, length, filter, IsTrue, IsFalse, slice_index}
 use Rattle.definitions.specs.Network.{NetworkData, tail_of, head_of, is_boarding, boarding_arcs}
 use Rattle.definitions.specs.Dual.{time_through, weighted_savings}
@@ -9,7 +9,7 @@ use Rattle.definitions.specs.Reach.{is_reached}
 abbrev pub reaching_boardings : NetworkData → List Bool → ℕ → List ℕ
 reaching_boardings net reached node = filter (λ arc. is_reached reached (head_of net arc)) (boarding_arcs net node)
 
--- the arcs that leave the node and lead to nodes that reach permit this label: it is no higher than what a free one leads to,
+-- the arcs that leave the node and lead to nodes that reach permit this label: it is no higher than what each free one leads to,
 -- and what the boarding arcs save against it, each times its weight, is at most k
 pub record Permits (net : NetworkData) (reached : List Bool) (labels : List ℕ) (node label : ℕ) : Type 0 where
   pub free : (arc : ℕ) → arc < length net.arcs → tail_of net arc ≡ node → IsTrue (is_reached reached (head_of net arc)) →
@@ -26,7 +26,8 @@ pub record IsHighest (net : NetworkData) (reached : List Bool) (labels : List �
   pub one : (other : ℕ) × (other < net.nodes) × IsTrue (is_reached reached other) × (slice_index labels node ≡ slice_index labels other)
   pub highest : (other : ℕ) → other < net.nodes → IsTrue (is_reached reached other) → slice_index labels other ≤ slice_index labels node
 
--- labels that solve their equations, where marks tell which nodes reach the destination
+-- labels that are 0 at the destination, the greatest that the arcs permit at each other node that reaches it,
+-- and the greatest of these labels at the nodes that do not
 pub record SolvesLabels (net : NetworkData) (destination : ℕ) (reached : List Bool) (labels : List ℕ) : Type 0 where
   pub label_per_node : length labels ≡ net.nodes
   pub zero_at_destination : slice_index labels destination ≡ 0

@@ -1,5 +1,5 @@
 -- The volumes of arcs and the waits of nodes that follow from the choices of all passengers to one destination.
--- Spiess and Florian 1989, in whole units.
+-- After Spiess and Florian 1989, in whole units; waits are in ticks times units. Here: docs/FORMATS.md.
 use Rattle.std.specs.Prelude.{◌≡◌, ℕ, ◌+◌, ◌<◌, ◌≤◌, ◌==◌, Bool, List, length, IsTrue, IsFalse, slice_index, if◌then◌else◌}
 use Rattle.definitions.specs.declared.choice.Choice.{Choice}
 use Rattle.definitions.specs.declared.choice.Choice.TheVariants.{Stop, Walk, Wait}
@@ -9,7 +9,7 @@ use Rattle.definitions.specs.Reach.{is_reached}
 use Rattle.definitions.specs.Split.{share}
 use Rattle.definitions.specs.Choice.{is_attractive, attractive_arcs, choice_at}
 
--- the units at a node: its demand and what comes to it
+-- the units of passengers at a node: its demand and what comes to it
 abbrev pub units_at : NetworkData → List ℕ → List ℕ → ℕ → ℕ
 units_at net demand volumes node = slice_index demand node + flow_into net volumes node
 

@@ -5,7 +5,7 @@
 pub enum Choice {
     /// They are there, or no way leads there.
     Stop,
-    /// They walk along the free arc of this number.
+    /// They take the free arc of this number, without waiting.
     Walk { arc: u32 },
     /// They wait, and board the first to leave of `count` arcs of this combined `weight`
     /// (1/1000 departure in the window).
