@@ -5,3 +5,7 @@ pub mod Grouped
 pub mod TotalsLemmas
 pub mod KnownValues
 pub mod FourStops
+pub mod KnownSplits
+pub mod KnownLabels
+pub mod KnownVolumes
+pub mod FourStopsLabels

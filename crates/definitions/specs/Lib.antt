@@ -5,3 +5,8 @@ pub mod Plan
 pub mod Dual
 pub mod Duality
 pub mod Totals
+pub mod Reach
+pub mod Labels
+pub mod Split
+pub mod Choice
+pub mod Volumes

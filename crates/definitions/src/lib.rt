@@ -1,12 +1,14 @@
-//! What the desk's contracts speak of: limits, networks, plans, dual labels and the spelling of
-//! numbers. Its only calls are theorems about these definitions.
+//! What the desk's contracts speak of: limits, networks, plans, dual labels, labels, choices,
+//! volumes and the spelling of numbers. Its only calls are theorems about these definitions.
 #![tactic(auto)]
 
 mod arc;
+mod choice;
 mod duality;
 mod limits;
 
 pub use arc::NetArc;
+pub use choice::Choice;
 pub use duality::weak_duality;
 pub use limits::{
     ARC_LIMIT, COST_LIMIT, FILE_LIMIT, K_LIMIT, LABEL_LIMIT, NODE_LIMIT, UNIT_LIMIT, VOLUME_LIMIT,
