@@ -110,3 +110,36 @@ one_line-savings (suc (suc node)) lt ne = absurd (omega arith)
 
 pub one_line-dual : IsDualFeasible one_line 1 one_line_labels
 one_line-dual = record { label_per_node = refl; zero_at_destination = refl; free_arcs = one_line-free; boarding = one_line-savings }
+
+-- ---- what is no plan, and what is not dual feasible
+
+not_one : (n : ℕ) → n ≡ 0 → n ≡ 1 → ⊥
+not_one n none one = omega arith
+
+-- a passenger who stays
+one_line-lost : Conserves one_line 1 one_line_demand (0 ∷ []) 0 → ⊥
+one_line-lost conserves = not_one 0 refl conserves
+
+too_much : 1800001000 ≤ 1800000000 → ⊥
+too_much h = omega arith
+
+starts : (n : ℕ) → n ≡ 0 → n ≢ 1
+starts n none one = not_one n none one
+
+-- a label that is one too high: 7000 * (317143 - 60000) is above k
+one_line-too_high : IsDualFeasible one_line 1 (317143 ∷ 0 ∷ []) → ⊥
+one_line-too_high dual = too_much (dual.boarding 0 (lit< tt) (starts 0 refl))
+
+-- a label at the destination
+one_line-not_zero : IsDualFeasible one_line 1 (317142 ∷ 1 ∷ []) → ⊥
+one_line-not_zero dual = not_one (slice_index (317142 ∷ 1 ∷ []) 1) dual.zero_at_destination refl
+
+abbrev pub one_walk : NetworkData
+one_walk = record { nodes = 2; arcs = (free 0 1 5) ∷ []; k = 0 }
+
+six_above_five : 6 ≤ 5 → ⊥
+six_above_five h = omega arith
+
+-- a label above what a free arc leads to
+one_walk-too_high : IsDualFeasible one_walk 1 (6 ∷ 0 ∷ []) → ⊥
+one_walk-too_high dual = six_above_five (dual.free_arcs 0 (lit< tt) (starts 0 refl) refl)
