@@ -23,7 +23,8 @@ use Rattle.certificate.specs.LineFaults.{refused_if, range_faults, arc_refusal, 
 use Rattle.certificate.specs.Stops.{refusal_of}
 use Rattle.certificate.specs.declared.checker.reading.Reading.{Reading}
 use Rattle.certificate.specs.CheckerFields.{bytes_of, IsReading}
-use Rattle.certificate.specs.Fed.{CheckerData, bytes_so_far, HasArcsLine, IsPastArcs, IsUnended}
+use Rattle.certificate.specs.Fed.{CheckerData, bytes_so_far, HasArcsLine, IsPastArcs}
+use Rattle.certificate.proofs.OneFault.{IsUnended}
 use Rattle.certificate.proofs.ExactLines.{shape_exact}
 use Rattle.certificate.proofs.KindReaders.{line_is}
 use Rattle.certificate.proofs.ExactJudged.{kind_judged}

@@ -9,10 +9,17 @@ use Rattle.certificate.specs.NextLine.{line_at}
 use Rattle.certificate.specs.Kept.{IsKept}
 use Rattle.certificate.specs.Stops.{refusal_of}
 use Rattle.certificate.specs.Refusals.{HasFaultyLine}
-use Rattle.certificate.specs.Fed.{IsUnended}
 use Rattle.certificate.proofs.Trails.{one_stop}
 use Rattle.certificate.proofs.FaultsRead.{stops_at}
 use Rattle.certificate.proofs.DraftTrail.{start, HasTrail, trail_at}
+
+-- the bytes are good lines and then the front of a line, which is not ended
+pub record IsUnended (bytes : List ℕ) : Type 0 where
+  pub draft : DraftData
+  pub kept : IsKept draft
+  pub part : List ℕ
+  pub text : text_so_far draft ++ part ≡ bytes
+  pub stops : line_at draft part ≡ Err (fault.Stop 0)
 
 -- the reading of one text stops with one fault
 pub one_fault : (a b : DraftData) (r s : List ℕ) (f g : Fault) → IsKept a → IsKept b → text_so_far a ++ r ≡ text_so_far b ++ s → line_at a r ≡ Err f → line_at b s ≡ Err g → f ≡ g

@@ -8,7 +8,7 @@ use Rattle.certificate.specs.declared.stage.Stage.{Stage}
 use Rattle.certificate.specs.declared.stage.Stage.TheVariants as stage
 use Rattle.certificate.specs.Spelling.{Certificate, network_of, title, last_line, arc_line}
 
--- what the lines so far say; a number whose line is not read yet is 0
+-- what the lines so far say; a number whose line is not read yet says nothing
 pub record DraftData : Type 0 where
   pub stage : Stage
   pub nodes : ℕ

@@ -45,14 +45,6 @@ pub record HasArcsLine (bytes : List ℕ) : Type 0 where
   pub rest : List ℕ
   pub text : bytes ≡ title ++ number_line (codes "nodes") nodes ++ number_line (codes "arcs") arcs ++ rest
 
--- the bytes are good lines and then the front of a line, which is not ended
-pub record IsUnended (bytes : List ℕ) : Type 0 where
-  pub draft : DraftData
-  pub kept : IsKept draft
-  pub part : List ℕ
-  pub text : text_so_far draft ++ part ≡ bytes
-  pub stops : line_at draft part ≡ Err (fault.Stop 0)
-
 -- no line of the bytes is faulty: at most they end too early
 abbrev pub HasNoFault : List ℕ → Type 0
 HasNoFault bytes = (answer : Refused) → HasFaultyLine bytes answer → answer ≡ refused.Grammar (length bytes)

@@ -3,7 +3,7 @@
 ghost use Rattle.std.specs.Prelude.{◌≡◌, ◌≢◌, ◌≤◌, ◌++◌, ◌⊎◌, [], None, Some, IfOk, OnOk, IfErr};
 ghost use Rattle.certificate.specs.Valid.{HasVerdict, NoPlanIsCheaperIn, IsOnly, BoundHolds};
 ghost use Rattle.certificate.specs.Refusals.{IsRefusedOnly, IsRefusedWith};
-ghost use Rattle.certificate.specs.Fed.{bytes_so_far, HasArcsLine, HasNoFault, IsRefusedForGood, IsUnended};
+ghost use Rattle.certificate.specs.Fed.{bytes_so_far, HasArcsLine, HasNoFault, IsRefusedForGood};
 
 mod reading;
 
@@ -55,9 +55,8 @@ impl Checker {
     /// them; that they end is no fault. After a refusal it is answered again. `NoMemory` may come in
     /// place of any until the line of the number of arcs is read.
     pub fn feed(&mut self, piece: &[u8]) -> Result<(), Refused>
-        // Each line that is ended is good.
+        // No line so far is faulty.
         ensures bytes { OnOk result (bytes_so_far self.new ≡ bytes_so_far self.old ++ piece.now) }
-        ensures unended { OnOk result (IsUnended (bytes_so_far self.new)) }
         ensures faultless { OnOk result (HasNoFault (bytes_so_far self.new)) }
         ensures ok { OnOk result ((self.old.refused ≡ None) × (self.new.refused ≡ None)) }
 

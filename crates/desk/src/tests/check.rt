@@ -1,5 +1,7 @@
 //! Runs of `check`.
 
+mod outside;
+
 use crate::run::run;
 use crate::status::Status;
 use desk_io::{Blob, MemoryFolder, MemorySink, Name};
@@ -40,24 +42,34 @@ fn run_words(
     failing: &[u64],
     room: usize,
 ) -> Result<Ran, AllocError> {
+    let bytes = Blob::new(Vec::from_slice(rt.alloc(), file.1.as_bytes())?);
+    run_over(rt, words, folder_of(rt, file.0, bytes, 1000, failing)?, room)
+}
+
+// Runs the words over a folder. `room` is that of the output.
+fn run_over(
+    rt: &(impl Abort + AllocGlobal),
+    words: &[&str],
+    mut folder: MemoryFolder,
+    room: usize,
+) -> Result<Ran, AllocError> {
     let alloc = rt.alloc();
     let mut names = Vec::new(alloc);
     for word in words {
         names.push(Name::new(String::from_str(alloc, word)?))?;
     }
-    let bytes = Blob::new(Vec::from_slice(alloc, file.1.as_bytes())?);
-    let mut folder = folder_of(rt, file.0, bytes, failing)?;
     let mut out = MemorySink::new(alloc, room, 7, Vec::new(alloc))?;
     let mut err = MemorySink::new(alloc, 1000, 1000, Vec::new(alloc))?;
     let status = run(alloc, names.as_slice(), &mut folder, &mut out, &mut err);
     Ok(Ran { status, out, err })
 }
 
-// A folder with one file.
+// A folder with one file, of which one read gives at most `step` bytes.
 fn folder_of(
     rt: &(impl Abort + AllocGlobal),
     path: &str,
     bytes: Blob,
+    step: usize,
     failing: &[u64],
 ) -> Result<MemoryFolder, AllocError> {
     let alloc = rt.alloc();
@@ -66,7 +78,7 @@ fn folder_of(
     files.push((path, bytes))?;
     assert!(rt; MemoryFolder::has_distinct_paths(&files));
     let failing = Vec::from_slice(alloc, failing)?;
-    Ok(MemoryFolder::new(files, 1000, failing))
+    Ok(MemoryFolder::new(files, step, failing))
 }
 
 #[test]
@@ -94,7 +106,10 @@ fn prints_the_verdict_of_a_valid_certificate(rt: HostRuntime) -> Result<(), Fail
         ),
     ];
     for (text, lines) in tables {
-        let ran = run_words(&rt, &["check", "c"], ("c", text), &[], 1000)?;
+        // The file comes in pieces of 7 bytes.
+        let bytes = Blob::new(Vec::from_slice(rt.alloc(), text.as_bytes())?);
+        let folder = folder_of(&rt, "c", bytes, 7, &[])?;
+        let ran = run_over(&rt, &["check", "c"], folder, 1000)?;
         assert_eq!(rt; ran.status.code, 0, "{lines}");
         assert_eq!(rt; ran.out.bytes(), lines.as_bytes(), "{lines}");
         assert_eq!(rt; ran.err.bytes(), b"".as_slice(), "{lines}");
@@ -153,14 +168,19 @@ fn tells_what_is_wrong_with_a_text(rt: HostRuntime) -> Result<(), Fail> {
         assert_eq!(rt; ran.out.bytes(), b"".as_slice(), "{changed}");
         assert_eq!(rt; ran.err.bytes(), fault.as_bytes(), "{changed}");
     }
-    // The first 98 bytes, which end inside the first label.
-    let cut = ONE_LINE.get(..98).ok_or("98 bytes")?;
-    let ran = run_words(&rt, &["check", "c"], ("c", cut), &[], 1000)?;
-    assert_eq!(rt; ran.status.code, 12);
-    assert_eq!(rt;
-        ran.err.bytes(),
-        b"error 12: refused grammar at 98\n".as_slice()
-    );
+    Ok(())
+}
+
+#[test]
+fn a_text_that_ends_early_is_refused_at_its_end(rt: HostRuntime) -> Result<(), Fail> {
+    for end in 0..126usize {
+        let cut = ONE_LINE.get(..end).ok_or("so many bytes")?;
+        let ran = run_words(&rt, &["check", "c"], ("c", cut), &[], 1000)?;
+        let fault = format!(in rt.alloc(); "error 12: refused grammar at {end}\n")?;
+        assert_eq!(rt; ran.status.code, 12, "at {end}");
+        assert_eq!(rt; ran.out.bytes(), b"".as_slice(), "at {end}");
+        assert_eq!(rt; ran.err.bytes(), fault.as_bytes(), "at {end}");
+    }
     Ok(())
 }
 
@@ -176,85 +196,4 @@ fn replaced(alloc: Global, text: &str, line: &str, changed: &str) -> Result<Stri
         None => made.push_str(text)?,
     }
     Ok(made)
-}
-
-#[test]
-fn refuses_words_and_missing_files(rt: HostRuntime) -> Result<(), Fail> {
-    let cases: [(&[&str], &str); 5] = [
-        (&[], "error 2: usage words\n"),
-        (&["check"], "error 2: usage words\n"),
-        (&["check", "c", "d"], "error 2: usage words\n"),
-        (&["chek", "c"], "error 2: usage words\n"),
-        (&["check", "other"], "error 2: usage no file other\n"),
-    ];
-    for (words, fault) in cases {
-        let ran = run_words(&rt, words, ("c", ONE_LINE), &[], 1000)?;
-        assert_eq!(rt; ran.status.code, 2, "{fault}");
-        assert_eq!(rt; ran.out.bytes(), b"".as_slice(), "{fault}");
-        assert_eq!(rt; ran.err.bytes(), fault.as_bytes(), "{fault}");
-    }
-    Ok(())
-}
-
-#[test]
-fn tells_faults_of_the_folder_and_of_the_output(rt: HostRuntime) -> Result<(), Fail> {
-    // Call 0 begins the file, call 1 is the first read.
-    for failing in [0, 1] {
-        let ran = run_words(&rt, &["check", "c"], ("c", ONE_LINE), &[failing], 1000)?;
-        assert_eq!(rt; ran.status.code, 8, "call {failing}");
-        assert_eq!(rt; ran.out.bytes(), b"".as_slice(), "call {failing}");
-        assert_eq!(rt;
-            ran.err.bytes(),
-            b"error 8: read fault\n".as_slice(),
-            "call {failing}"
-        );
-    }
-    // A text that is wrong from its first byte on: two reads give its 2,000 bytes, and the third fails.
-    let wrong = "x".repeat(rt.alloc(), 2000)?;
-    let ran = run_words(&rt, &["check", "c"], ("c", wrong.as_str()), &[3], 1000)?;
-    assert_eq!(rt; ran.status.code, 8);
-    let ran = run_words(&rt, &["check", "c"], ("c", wrong.as_str()), &[], 1000)?;
-    assert_eq!(rt;
-        ran.err.bytes(),
-        b"error 12: refused grammar at 0\n".as_slice()
-    );
-    let ran = run_words(&rt, &["check", "c"], ("c", ONE_LINE), &[], 5)?;
-    assert_eq!(rt; ran.status.code, 9);
-    assert_eq!(rt; ran.out.bytes(), b"valid".as_slice());
-    assert_eq!(rt; ran.err.bytes(), b"error 9: write fault 5\n".as_slice());
-    Ok(())
-}
-
-#[test]
-fn refuses_a_file_past_its_limit(rt: HostRuntime) -> Result<(), Fail> {
-    let bytes = vec![in rt.alloc(); b'a'; 268_435_457]?;
-    let mut folder = folder_of(&rt, "c", Blob::new(bytes), &[])?;
-    let mut out = MemorySink::new(rt.alloc(), 10, 10, Vec::new(rt.alloc()))?;
-    let mut err = MemorySink::new(rt.alloc(), 100, 100, Vec::new(rt.alloc()))?;
-    let mut words = Vec::new(rt.alloc());
-    words.push(Name::new(String::from_str(rt.alloc(), "check")?))?;
-    words.push(Name::new(String::from_str(rt.alloc(), "c")?))?;
-    let status = run(
-        rt.alloc(),
-        words.as_slice(),
-        &mut folder,
-        &mut out,
-        &mut err,
-    );
-    assert_eq!(rt; status.code, 7);
-    assert_eq!(rt; out.bytes(), b"".as_slice());
-    assert_eq!(rt; err.bytes(), b"error 7: range file 268435457\n".as_slice());
-    Ok(())
-}
-
-#[test]
-fn shows_a_path_in_printable_characters(rt: HostRuntime) -> Result<(), Fail> {
-    let long = "a/path/with\ta/tab/and/more/than/sixty/bytes/that/goes/on/and/on/to/its/end";
-    let ran = run_words(&rt, &["check", long], ("c", ONE_LINE), &[], 1000)?;
-    let shown =
-        "error 2: usage no file a/path/with?a/tab/and/more/than/sixty/bytes/that/goes/on/and\n";
-    assert_eq!(rt; ran.err.bytes(), shown.as_bytes());
-    let ran = run_words(&rt, &["check", ""], ("c", ONE_LINE), &[], 1000)?;
-    assert_eq!(rt; ran.err.bytes(), b"error 2: usage no file -\n".as_slice());
-    Ok(())
 }

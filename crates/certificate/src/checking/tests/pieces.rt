@@ -73,6 +73,9 @@ fn a_cut_changes_no_refusal(rt: HostRuntime) -> Result<(), Fail> {
         let text = text_with(rt.alloc(), &ONE_LINE, *place, line)?;
         assert_eq!(rt; other_cut(rt.alloc(), &text, *refused), None, "at {line}");
     }
+    let text = one_line(rt.alloc())?;
+    let refused = Refused::Grammar { at: 98 };
+    assert_eq!(rt; other_cut(rt.alloc(), &text[..98], refused), None);
     Ok(())
 }
 
