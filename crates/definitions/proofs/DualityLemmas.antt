@@ -22,7 +22,7 @@ places f a (x ∷ xs) h =
     ∙ sym (sum_by-cons (λ v. v) x xs)
 
 -- a term of a sum that is 0 is 0
-zero_term : (f : ℕ → ℕ) (n a : ℕ) → a < n → sum_by f (range_with_len 0 n) ≤ 0 → f a ≡ 0
+pub zero_term : (f : ℕ → ℕ) (n a : ℕ) → a < n → sum_by f (range_with_len 0 n) ≤ 0 → f a ≡ 0
 zero_term f n a lt h =
     let within : a < length (range_with_len 0 n) = rw length-range_with_len lt in
     let part : f (get_or (range_with_len 0 n) a 0) ≤ sum_by f (range_with_len 0 n) = get_or-le-sum_by f (range_with_len 0 n) a 0 within in

@@ -8,3 +8,10 @@ pub mod FourStops
 pub mod KnownSplits
 pub mod KnownLabels
 pub mod KnownVolumes
+pub mod RankLemmas
+pub mod SplitLemmas
+pub mod SpanSplitLemmas
+pub mod ChoiceLemmas
+pub mod WaitingLemmas
+pub mod VolumeLemmas
+pub mod LoadingLaws

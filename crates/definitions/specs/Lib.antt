@@ -10,3 +10,5 @@ pub mod Labels
 pub mod Split
 pub mod Choice
 pub mod Volumes
+pub mod SplitLaws
+pub mod VolumeLaws

@@ -6,6 +6,8 @@ mod arc;
 mod choice;
 mod duality;
 mod limits;
+mod loading;
+mod splitting;
 
 pub use arc::NetArc;
 pub use choice::Choice;
@@ -14,3 +16,5 @@ pub use limits::{
     ARC_LIMIT, COST_LIMIT, FILE_LIMIT, K_LIMIT, LABEL_LIMIT, NODE_LIMIT, UNIT_LIMIT, VOLUME_LIMIT,
     WAIT_LIMIT, WEIGHT_LIMIT,
 };
+pub use loading::volume_laws;
+pub use splitting::split_laws;

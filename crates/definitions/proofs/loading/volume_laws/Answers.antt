@@ -1,0 +1,10 @@
+use Rattle.definitions.proofs.LoadingLaws.{volumes_are_a_plan, volumes_lead_lower, volumes_are_one, least_waits_are_one}
+use Rattle.definitions.proofs.loading.volume_laws.Goals as goal
+
+pub returns : goal.returns
+returns c = record {
+  volumes_are_a_plan = volumes_are_a_plan;
+  volumes_lead_lower = volumes_lead_lower;
+  volumes_are_one = volumes_are_one;
+  least_waits_are_one = least_waits_are_one;
+}
