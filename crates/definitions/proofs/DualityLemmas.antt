@@ -13,7 +13,7 @@ use Rattle.definitions.specs.Duality.{WeakDuality}
 use Rattle.definitions.proofs.Sums.{sum_by-filter, sum_by-scale, sum_by-add, sum_by-same, sum_by-none, range_le, range_same, gathered}
 
 -- the sum of a list, by places
-places : (f : ℕ → ℕ) (a : ℕ) (xs : List ℕ) → ((i : ℕ) → i < length xs → f (a + i) ≡ get_or xs i 0) → sum_by f (range_with_len a (length xs)) ≡ sum xs
+pub places : (f : ℕ → ℕ) (a : ℕ) (xs : List ℕ) → ((i : ℕ) → i < length xs → f (a + i) ≡ get_or xs i 0) → sum_by f (range_with_len a (length xs)) ≡ sum xs
 places f a [] h = refl
 places f a (x ∷ xs) h =
     sum_by-cons f a (range_with_len (a + 1) (length xs))

@@ -14,4 +14,5 @@ pub mod SpanSplitLemmas
 pub mod ChoiceLemmas
 pub mod WaitingLemmas
 pub mod VolumeLemmas
+pub mod UnitLemmas
 pub mod LoadingLaws

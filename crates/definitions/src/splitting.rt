@@ -1,10 +1,6 @@
 //! Laws of the split of whole units, as theorems about its definition alone.
 
-ghost use Rattle.definitions.specs.SplitLaws.{
-  NoWeightGetsNothing,
-  SharesAreNearEven,
-  SharesSumToUnits,
-};
+ghost use Rattle.definitions.specs.SplitLaws.{SharesSumToUnits, SharesAreNearEven, NoWeightGetsNothing};
 
 /// A split by largest remainders (Hamilton's method) gives out its units, and gives them evenly.
 ///
