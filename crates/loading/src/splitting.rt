@@ -1,0 +1,144 @@
+//! Whole units split over weights by largest remainders (Hamilton's method), without memory.
+
+ghost use Rattle.std.specs.Prelude.{◌≡◌, ℕ, ◌+◌, ◌-◌, ◌*◌, ◌/◌, ◌%◌, ◌<◌, ◌≤◌, length, sum, slice_index, EachIndex};
+ghost use Rattle.std.specs.List.{range_with_len};
+ghost use Rattle.std.specs.List.Sorted.{IsPermutation};
+ghost use Rattle.definitions.specs.declared.limits.TheConstants.{ARC_LIMIT, UNIT_LIMIT};
+ghost use Rattle.definitions.specs.Split.{comes_before, share};
+ghost use Rattle.loading.specs.Places.{IsOnePlaceEach, IsSplitAt};
+
+use std::cmp::Reverse;
+
+/// Splits `units` over the weights by largest remainders (Hamilton's method).
+///
+/// Writes into `out`, place by place, the whole part of each weight's even share, and one more
+/// where a unit is left for it: units that no whole part takes go one each to the largest
+/// remainders, ties to the lower place. A weight of 0 gets 0. `out` and `scratch` are as long as
+/// `weights`; what `scratch` holds is of no use before or after.
+///
+/// The time is linear where no unit is left, and otherwise that of a partial selection.
+pub fn split(units: u64, weights: &[u32], out: &mut [u64], scratch: &mut [u32])
+    requires out_per_weight { length out.old ≡ length weights.now }
+    requires scratch_per_weight { length scratch.old ≡ length weights.now }
+    requires few { length weights.now ≤ ARC_LIMIT }
+    requires units { units ≤ UNIT_LIMIT }
+    requires positive { 0 < sum weights.now }
+    ensures shares { EachIndex out.new (λ place. slice_index out.new place ≡ share units (slice_index weights.now) (range_with_len 0 (length weights.now)) place) }
+    ensures all_given { sum out.new ≡ units }
+    ensures no_weight { EachIndex out.new (λ place. slice_index weights.now place ≡ 0 → slice_index out.new place ≡ 0) }
+{
+    let all = total_of(weights);
+    give_whole(units, weights, all, out, scratch);
+    let left = left_of(units, out);
+    if left > 0 {
+        put_first(left, units, weights, all, out, scratch);
+        give_left(left, out, scratch);
+    }
+}
+
+// The sum of the weights.
+fn total_of(weights: &[u32]) -> u64
+    requires few { length weights.now ≤ ARC_LIMIT }
+    ensures value { result ≡ sum weights.now }
+{
+    let mut total = 0u64;
+    for weight in weights {
+        total += *weight as u64;
+    }
+    total
+}
+
+// The whole part of a weight's even share.
+fn whole_of(units: u64, weight: u32, all: u64) -> u64
+    requires positive { 0 < all }
+    requires part { weight ≤ all }
+    ensures value { result ≡ units * weight / all }
+{
+    match units.checked_mul(weight as u64) {
+        Some(product) => product / all,
+        None => (units as u128 * weight as u128 / all as u128) as u64,
+    }
+}
+
+// What the whole part leaves of an even share.
+fn remainder_of(units: u64, weight: u32, all: u64, whole: u64) -> u64
+    requires positive { 0 < all }
+    requires whole { whole ≡ units * weight / all }
+    ensures value { result ≡ units * weight % all }
+{
+    (units as u128 * weight as u128 - whole as u128 * all as u128) as u64
+}
+
+// What the whole part leaves at a place.
+fn remainder_at(units: u64, weights: &[u32], all: u64, wholes: &[u64], place: u32) -> u64
+    requires positive { 0 < all }
+    requires wholes { EachIndex wholes.now (λ place. slice_index wholes.now place ≡ units * slice_index weights.now place / all) }
+    requires whole_per_weight { length wholes.now ≡ length weights.now }
+    ensures value { result ≡ units * slice_index weights.now place % all }
+{
+    match weights.get(place as usize) {
+        Some(weight) => remainder_of(units, *weight, all, wholes[place as usize]),
+        None => 0,
+    }
+}
+
+// Gives each place its whole part, and numbers the scratch.
+#[tactic(auto, using(std::proofs::lemmas::List::Sums::get_or-le-sum_by))]
+fn give_whole(units: u64, weights: &[u32], all: u64, out: &mut [u64], scratch: &mut [u32])
+    requires out_per_weight { length out.old ≡ length weights.now }
+    requires scratch_per_weight { length scratch.old ≡ length weights.now }
+    requires few { length weights.now ≤ ARC_LIMIT }
+    requires all { all ≡ sum weights.now }
+    requires positive { 0 < all }
+    ensures wholes { EachIndex out.new (λ place. slice_index out.new place ≡ units * slice_index weights.now place / all) }
+    ensures numbers { EachIndex scratch.new (λ place. slice_index scratch.new place ≡ place) }
+{
+    for place in 0..weights.len() {
+        out[place] = whole_of(units, weights[place], all);
+        scratch[place] = place as u32;
+    }
+}
+
+// The units that are not given out.
+#[tactic(auto, using(std::proofs::lemmas::List::Sums::sum_by_more_le))]
+fn left_of(units: u64, out: &[u64]) -> u64
+    requires within { sum out.now ≤ units }
+    ensures value { result ≡ units - sum out.now }
+{
+    let mut given = 0u64;
+    for share in out {
+        given += *share;
+    }
+    units - given
+}
+
+// Puts the places that come first at the front: those with the largest remainders, ties by place.
+fn put_first(left: u64, units: u64, weights: &[u32], all: u64, wholes: &[u64], scratch: &mut [u32])
+    requires positive { 0 < all }
+    requires wholes { EachIndex wholes.now (λ place. slice_index wholes.now place ≡ units * slice_index weights.now place / all) }
+    requires whole_per_weight { length wholes.now ≡ length weights.now }
+    requires left { left < length scratch.old }
+    ensures permutation { IsPermutation scratch.old scratch.new }
+    ensures first { IsSplitAt (comes_before (λ place. units * slice_index weights.now place % all)) left scratch.new }
+{
+    scratch.select_nth_unstable_by_key(left as usize, |place| {
+        (
+            Reverse(remainder_at(units, weights, all, wholes, *place)),
+            *place,
+        )
+    });
+}
+
+// Gives one unit more to each of the first places.
+fn give_left(left: u64, out: &mut [u64], scratch: &[u32])
+    requires few { left ≤ length scratch.now }
+    requires place_per_share { length scratch.now ≡ length out.old }
+    requires places { IsOnePlaceEach scratch.now }
+    requires within { EachIndex out.old (λ place. slice_index out.old place ≤ UNIT_LIMIT) }
+    ensures given { (at : ℕ) → at < left → slice_index out.new (slice_index scratch.now at) ≡ slice_index out.old (slice_index scratch.now at) + 1 }
+    ensures kept { (at : ℕ) → left ≤ at → at < length scratch.now → slice_index out.new (slice_index scratch.now at) ≡ slice_index out.old (slice_index scratch.now at) }
+{
+    for at in 0..left as usize {
+        out[scratch[at] as usize] += 1;
+    }
+}
