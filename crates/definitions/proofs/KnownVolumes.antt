@@ -3,7 +3,6 @@
 -- over 10, which is 720000, make the label of 900000. The slower line leads on in just this label, so ten units split 6 to 4.
 use Rattle.std.proofs.Common.{◌≡◌, ℕ, zero, suc, ◌*◌, ◌<◌, ◌≤◌, Bool, List, [], ◌∷◌, refl, arith, lit≤, IsTrue}
 use Rattle.std.specs.Prelude.{true, slice_index}
-use Rattle.definitions.specs.declared.choice.Choice.{Choice}
 use Rattle.definitions.specs.declared.choice.Choice.TheVariants.{Stop, Walk, Wait}
 use Rattle.definitions.specs.Network.{NetworkData, tail_of, is_boarding}
 use Rattle.definitions.specs.Plan.{IsWaitedFor, cost_of_plan}
@@ -38,7 +37,7 @@ two_lines-stop = refl
 
 two_lines-parts : (arc : ℕ) → arc < 2 → slice_index two_lines_volumes arc ≡
     part_of two_lines two_lines_reached two_lines_labels (choice_at two_lines 1 two_lines_reached two_lines_labels (tail_of two_lines arc))
-      (units_at two_lines two_lines_demand two_lines_volumes (tail_of two_lines arc)) arc
+    (units_at two_lines two_lines_demand two_lines_volumes (tail_of two_lines arc)) arc
 two_lines-parts zero lt = refl
 two_lines-parts (suc zero) lt = refl
 two_lines-parts (suc (suc arc)) lt = absurd (omega arith)
