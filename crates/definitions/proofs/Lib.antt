@@ -1,5 +1,7 @@
 pub mod Sums
 pub mod DualityLemmas
+pub mod SavingLemmas
+pub mod LabelLemmas
 pub mod Spans
 pub mod Grouped
 pub mod TotalsLemmas
