@@ -33,7 +33,7 @@ count_le p q (x ∷ xs) h = rw (count p x xs, count q x xs) (
     omega arith)
 
 -- .. and more, where one of the numbers passes q alone
-count_lt : (p q : ℕ → Bool) (xs : List ℕ) (i : ℕ) → i < length xs → p (get_or xs i 0) ≡ false → q (get_or xs i 0) ≡ true →
+pub count_lt : (p q : ℕ → Bool) (xs : List ℕ) (i : ℕ) → i < length xs → p (get_or xs i 0) ≡ false → q (get_or xs i 0) ≡ true →
     ((a : ℕ) → p a ≡ true → q a ≡ true) → count_by p xs + 1 ≤ count_by q xs
 count_lt p q [] i lt fails holds h = absurd (omega arith)
 count_lt p q (x ∷ xs) zero lt fails holds h = rw (count p x xs, count q x xs, fails, holds) (let rest = count_le p q xs h in omega arith)
@@ -66,7 +66,7 @@ high_place true n p k j e high h = elim (cases_lt n j) [
 ]
 high_place false n p k j e high h = let below = h refl in rw (lt-ltb (0 + n) k (omega arith), lt-ltb n j (omega arith)) refl
 
-never_self : (before : ℕ → ℕ → Bool) → IsOrder before → (a : ℕ) → before a a ≡ false
+pub never_self : (before : ℕ → ℕ → Bool) → IsOrder before → (a : ℕ) → before a a ≡ false
 never_self before order a = elim (cases_Bool (before a a)) [ inl holds ↦ order.never_both a a holds | inr fails ↦ fails ]
 
 pub ranked : (before : ℕ → ℕ → Bool) → IsOrder before → (s : ℕ) (xs : List ℕ) → IsRising s xs → (k : ℕ) → k ≤ length xs →

@@ -1,8 +1,8 @@
 -- A split gives out its units, each share within one unit of the even one.
-use Rattle.std.proofs.Common.{◌≡◌, ℕ, zero, suc, ◌+◌, ◌*◌, ◌/◌, ◌%◌, ◌<◌, ◌≤◌, ◌==◌, Bool, true, false, cond, ◌&&◌, ◌||◌, List, length, refl, ◌∙◌, ap, arith, inl, inr}
+use Rattle.std.proofs.Common.{◌≡◌, ℕ, zero, suc, ◌+◌, ◌*◌, ◌/◌, ◌%◌, ◌<◌, ◌≤◌, ◌==◌, Bool, true, false, cond, ◌&&◌, ◌||◌, List, [], ◌∷◌, length, refl, ◌∙◌, ap, arith, inl, inr}
 use Rattle.std.specs.Bool.{nat_lt}
 use Rattle.std.specs.List.{count_by, sum_by}
-use Rattle.std.proofs.lemmas.List.Sums.{count_by-le-length, sum_by-le-sum_by}
+use Rattle.std.proofs.lemmas.List.Sums.{sum_by-cons, count_by-le-length, sum_by-le-sum_by}
 use Rattle.std.proofs.lemmas.Bool.Decides.{nat_tests}
 use Rattle.std.proofs.lemmas.Bool.{cases_lt, lt-ltb, le-ltb}
 use Rattle.std.proofs.lemmas.Nat.{div-add-mod', mod_below}
@@ -92,6 +92,31 @@ few_left units weight arcs some =
     let l = left_by_rest units weight arcs some in
     let c = count_by-le-length (λ a. nat_lt 0 (remainder units weight arcs a)) arcs in
     omega arith
+
+-- remainders below a number sum to less than that number for each
+sum_below : (rest : ℕ → ℕ) (all : ℕ) (arcs : List ℕ) → ((a : ℕ) → rest a < all) → sum_by rest arcs + length arcs ≤ all * length arcs
+sum_below rest all [] below = omega arith
+sum_below rest all (x ∷ xs) below = rw (sum_by-cons rest x xs) (omega (arith, sum_below rest all xs below, below x))
+
+-- fewer units are left than there are numbers
+pub fewer_left : (units : ℕ) (weight : ℕ → ℕ) (arcs : List ℕ) → 0 < sum_by weight arcs → units_left units weight arcs < length arcs
+fewer_left units weight [] some = absurd (omega arith)
+fewer_left units weight (x ∷ xs) some =
+    let arcs : List ℕ = x ∷ xs in
+    let all : ℕ = sum_by weight arcs in
+    let left : ℕ = units_left units weight arcs in
+    let few : left ≤ length arcs = few_left units weight arcs some in
+    let e : all * left ≡ sum_by (remainder units weight arcs) arcs = left_over units weight arcs some in
+    let most : sum_by (remainder units weight arcs) arcs + length arcs ≤ all * length arcs =
+    sum_below (remainder units weight arcs) all arcs (λ a. mod_below (units * weight a) all some) in
+    elim (cases_lt left (length arcs)) [
+      | inl lt ↦ lt
+      | inr ge ↦ absurd (
+          let same : left ≡ length arcs = omega arith in
+          let times : all * left ≡ all * length arcs = ap (λ n. all * n) same in
+          let none : length arcs ≡ 0 = omega arith in
+          absurd (let some : 0 < length arcs = omega arith in omega arith))
+    ]
 
 -- ---- the shares
 

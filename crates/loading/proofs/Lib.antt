@@ -1,0 +1,4 @@
+mod ElementLemmas
+mod OrderLemmas
+mod ShareLemmas
+mod CutLemmas

@@ -1,11 +1,10 @@
 //! Whole units split over weights by largest remainders (Hamilton's method), without memory.
 
-ghost use Rattle.std.specs.Prelude.{◌≡◌, ℕ, ◌+◌, ◌-◌, ◌*◌, ◌/◌, ◌%◌, ◌<◌, ◌≤◌, length, sum, slice_index, EachIndex};
+ghost use Rattle.std.specs.Prelude.{◌≡◌, ◌≢◌, ℕ, ◌+◌, ◌-◌, ◌*◌, ◌/◌, ◌%◌, ◌<◌, ◌≤◌, All, length, sum, slice_index, EachIndex};
 ghost use Rattle.std.specs.List.{range_with_len};
-ghost use Rattle.std.specs.List.Sorted.{IsPermutation};
 ghost use Rattle.definitions.specs.declared.limits.TheConstants.{ARC_LIMIT, UNIT_LIMIT};
-ghost use Rattle.definitions.specs.Split.{comes_before, share};
-ghost use Rattle.loading.specs.Places.{IsOnePlaceEach, IsSplitAt};
+ghost use Rattle.definitions.specs.Split.{share};
+ghost use Rattle.loading.specs.Places.{IsNumbered, AreApart};
 
 use std::cmp::Reverse;
 
@@ -31,8 +30,7 @@ pub fn split(units: u64, weights: &[u32], out: &mut [u64], scratch: &mut [u32])
     give_whole(units, weights, all, out, scratch);
     let left = left_of(units, out);
     if left > 0 {
-        put_first(left, units, weights, all, out, scratch);
-        give_left(left, out, scratch);
+        give_left(left, units, weights, all, out, scratch);
     }
 }
 
@@ -83,7 +81,7 @@ fn remainder_at(units: u64, weights: &[u32], all: u64, wholes: &[u64], place: u3
 }
 
 // Gives each place its whole part, and numbers the scratch.
-#[tactic(auto, using(std::proofs::lemmas::List::Sums::get_or-le-sum_by))]
+#[tactic(auto, using(crate::proofs::ElementLemmas::element_within))]
 fn give_whole(units: u64, weights: &[u32], all: u64, out: &mut [u64], scratch: &mut [u32])
     requires out_per_weight { length out.old ≡ length weights.now }
     requires scratch_per_weight { length scratch.old ≡ length weights.now }
@@ -91,7 +89,7 @@ fn give_whole(units: u64, weights: &[u32], all: u64, out: &mut [u64], scratch: &
     requires all { all ≡ sum weights.now }
     requires positive { 0 < all }
     ensures wholes { EachIndex out.new (λ place. slice_index out.new place ≡ units * slice_index weights.now place / all) }
-    ensures numbers { EachIndex scratch.new (λ place. slice_index scratch.new place ≡ place) }
+    ensures numbers { IsNumbered (length weights.now) scratch.new }
 {
     for place in 0..weights.len() {
         out[place] = whole_of(units, weights[place], all);
@@ -112,33 +110,36 @@ fn left_of(units: u64, out: &[u64]) -> u64
     units - given
 }
 
-// Puts the places that come first at the front: those with the largest remainders, ties by place.
-fn put_first(left: u64, units: u64, weights: &[u32], all: u64, wholes: &[u64], scratch: &mut [u32])
+// Gives one unit more to each of the places that come first: as many as units are left.
+fn give_left(left: u64, units: u64, weights: &[u32], all: u64, out: &mut [u64], scratch: &mut [u32])
+    requires out_per_weight { length out.old ≡ length weights.now }
+    requires numbers { IsNumbered (length weights.now) scratch.old }
+    requires all { all ≡ sum weights.now }
     requires positive { 0 < all }
-    requires wholes { EachIndex wholes.now (λ place. slice_index wholes.now place ≡ units * slice_index weights.now place / all) }
-    requires whole_per_weight { length wholes.now ≡ length weights.now }
-    requires left { left < length scratch.old }
-    ensures permutation { IsPermutation scratch.old scratch.new }
-    ensures first { IsSplitAt (comes_before (λ place. units * slice_index weights.now place % all)) left scratch.new }
+    requires wholes { EachIndex out.old (λ place. slice_index out.old place ≡ units * slice_index weights.now place / all) }
+    requires within { EachIndex out.old (λ place. slice_index out.old place ≤ UNIT_LIMIT) }
+    requires left { left ≡ units - sum out.old }
+    requires few { left < length scratch.old }
+    ensures shares { EachIndex out.new (λ place. slice_index out.new place ≡ share units (slice_index weights.now) (range_with_len 0 (length weights.now)) place) }
 {
-    scratch.select_nth_unstable_by_key(left as usize, |place| {
+    let (first, _, _) = scratch.select_nth_unstable_by_key(left as usize, |place| {
         (
-            Reverse(remainder_at(units, weights, all, wholes, *place)),
+            Reverse(remainder_at(units, weights, all, out, *place)),
             *place,
         )
     });
+    give_each(first, out);
 }
 
-// Gives one unit more to each of the first places.
-fn give_left(left: u64, out: &mut [u64], scratch: &[u32])
-    requires few { left ≤ length scratch.now }
-    requires place_per_share { length scratch.now ≡ length out.old }
-    requires places { IsOnePlaceEach scratch.now }
+// Gives one unit more to each of some places.
+fn give_each(places: &[u32], out: &mut [u64])
+    requires there { All (λ place. place < length out.old) places.now }
+    requires apart { AreApart places.now }
     requires within { EachIndex out.old (λ place. slice_index out.old place ≤ UNIT_LIMIT) }
-    ensures given { (at : ℕ) → at < left → slice_index out.new (slice_index scratch.now at) ≡ slice_index out.old (slice_index scratch.now at) + 1 }
-    ensures kept { (at : ℕ) → left ≤ at → at < length scratch.now → slice_index out.new (slice_index scratch.now at) ≡ slice_index out.old (slice_index scratch.now at) }
+    ensures given { (at : ℕ) → at < length places.now → slice_index out.new (slice_index places.now at) ≡ slice_index out.old (slice_index places.now at) + 1 }
+    ensures kept { (place : ℕ) → ((at : ℕ) → at < length places.now → slice_index places.now at ≢ place) → slice_index out.new place ≡ slice_index out.old place }
 {
-    for at in 0..left as usize {
-        out[scratch[at] as usize] += 1;
+    for at in 0..places.len() {
+        out[places[at] as usize] += 1;
     }
 }
