@@ -2,3 +2,5 @@ mod ElementLemmas
 mod OrderLemmas
 mod ShareLemmas
 mod CutLemmas
+mod WaitLemmas
+mod SpanLemmas

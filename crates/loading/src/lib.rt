@@ -2,5 +2,7 @@
 #![tactic(auto)]
 
 mod splitting;
+mod waiting;
 
 pub use splitting::split;
+pub use waiting::set_waits;
