@@ -6,7 +6,7 @@ use Rattle.std.proofs.lemmas.Bool.Decides.{nat_tests}
 use Rattle.std.proofs.lemmas.Bool.{cases_lt, cases_Bool, lt-ltb, le-ltb}
 use Rattle.std.proofs.lemmas.List.Sums.{sum_by-cons}
 use Rattle.definitions.specs.Split.{whole_share, remainder, units_left, comes_before, count_before, share}
-use Rattle.definitions.proofs.Sums.{sum_by-filter, sum_by-same}
+use Rattle.definitions.proofs.Sums.{sum_by-filter, sum_by-same, range_same}
 use Rattle.definitions.proofs.SplitLemmas.{even_share}
 
 -- a range that starts later
@@ -97,3 +97,17 @@ share_among units p w s n k lt some =
           ])
       | inr fails ↦ even_share units v places k some' (rests k ∙ rw fails refl) ∙ wholes k ∙ rw fails refl
     ]
+
+-- weights that agree at the places of a range split alike
+pub share_same : (units : ℕ) (v w : ℕ → ℕ) (n : ℕ) → ((k : ℕ) → k < n → v k ≡ w k) → (k : ℕ) → k < n →
+    share units v (range_with_len 0 n) k ≡ share units w (range_with_len 0 n) k
+share_same units v w n same k lt =
+    let places : List ℕ = range_with_len 0 n in
+    let total : sum_by v places ≡ sum_by w places = range_same v w 0 n (λ j low high. same j (omega arith)) in
+    let wholes : (j : ℕ) → j < n → whole_share units v places j ≡ whole_share units w places j = λ j less. ap (λ t. units * v j / t) total ∙ ap (λ x. units * x / sum_by w places) (same j less) in
+    let rests : (j : ℕ) → j < n → remainder units v places j ≡ remainder units w places j = λ j less. ap (λ t. units * v j % t) total ∙ ap (λ x. units * x % sum_by w places) (same j less) in
+    let left : units_left units v places ≡ units_left units w places = ap (λ t. units - t) (range_same (whole_share units v places) (whole_share units w places) 0 n (λ j low high. wholes j (omega arith))) in
+    let place : count_before (remainder units v places) places k ≡ count_before (remainder units w places) places k =
+    range_same (λ e. cond (comes_before (remainder units v places) e k) 1 0) (λ e. cond (comes_before (remainder units w places) e k) 1 0) 0 n
+    (λ e low high. rw (rests e (omega arith), rests k lt) refl) in
+    rw (wholes k lt, place, left) refl

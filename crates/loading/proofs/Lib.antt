@@ -4,3 +4,8 @@ mod ShareLemmas
 mod CutLemmas
 mod WaitLemmas
 mod SpanLemmas
+mod StepLemmas
+mod ChosenLemmas
+mod WeighedLemmas
+mod MiddleLemmas
+mod NoUnitLemmas

@@ -21,7 +21,7 @@ abbrev pub numbers : List ℕ → List ℕ
 numbers ws = range_with_len 0 (length ws)
 
 -- a sum over the places is the sum of the list
-by_places : (xs : List ℕ) → sum_by (weight_in xs) (numbers xs) ≡ sum xs
+pub by_places : (xs : List ℕ) → sum_by (weight_in xs) (numbers xs) ≡ sum xs
 by_places xs = places (weight_in xs) 0 xs (λ i lt. ap (weight_in xs) (let z : 0 + i ≡ i = omega arith in z))
 
 -- the whole parts, as a list

@@ -1,12 +1,8 @@
 -- The least wait over one more arc, and over the arcs of a node.
-use Rattle.std.proofs.Common.{◌≡◌, ℕ, ◌+◌, ◌-◌, ◌*◌, ◌<◌, ◌≤◌, max, Bool, true, List, length, refl, ◌∙◌, sym, ap, arith, inl, inr, subst, get_or, ◌==◌, IsTrue}
-use Rattle.std.specs.List.{filter, range_with_len, All}
-use Rattle.std.proofs.lemmas.Bool.{cases_lt, eq-eqb, eqb-true}
-use Rattle.std.proofs.lemmas.List.Elements.{filter_passes}
-use Rattle.std.proofs.lemmas.List.FromFn.{get_or-range_with_len, length-range_with_len}
+use Rattle.std.proofs.Common.{◌≡◌, ℕ, ◌+◌, ◌-◌, ◌*◌, ◌<◌, ◌≤◌, max, Bool, true, List, length, ◌∙◌, ap, arith, inl, inr, subst, get_or}
+use Rattle.std.proofs.lemmas.Bool.{cases_lt}
 use Rattle.std.proofs.Math.Nat.{mul-le-mul_left}
-use Rattle.definitions.specs.Network.{NetworkData, tail_of, weight_of, is_boarding, out_arcs}
-use Rattle.definitions.specs.Plan.{IsWaitedFor}
+use Rattle.definitions.specs.Network.{NetworkData, tail_of, weight_of, is_boarding}
 use Rattle.definitions.specs.Volumes.{IsLongEnough}
 
 -- the longer of two waits is long enough for what both are
