@@ -9,3 +9,4 @@ mod ChosenLemmas
 mod WeighedLemmas
 mod MiddleLemmas
 mod NoUnitLemmas
+mod PlanLemmas

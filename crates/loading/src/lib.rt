@@ -2,9 +2,9 @@
 #![tactic(auto)]
 
 mod carrying;
+mod loads;
 mod splitting;
 mod waiting;
 
-pub use carrying::load_all;
+pub use loads::{Loads, Unreachable, load};
 pub use splitting::split;
-pub use waiting::set_waits;
