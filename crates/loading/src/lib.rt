@@ -4,7 +4,9 @@
 mod carrying;
 mod loads;
 mod splitting;
+mod totals;
 mod waiting;
 
 pub use loads::{Loads, Unreachable, load};
 pub use splitting::split;
+pub use totals::{Totals, Volumes};

@@ -143,3 +143,70 @@ fn give_each(places: &[u32], out: &mut [u64])
         out[places[at] as usize] += 1;
     }
 }
+
+#[cfg(test)]
+mod tests {
+    use super::*;
+    use std::test::Fail;
+
+    // The split of units over three weights, of which the second is positive.
+    #[tactic(auto, using(crate::proofs::ElementLemmas::element_within))]
+    fn split_of(units: u64, weights: &[u32; 3]) -> Option<[u64; 3]> {
+        if units > 1_000_000_000_000_000 || weights[1] == 0 {
+            return None;
+        }
+        let mut out = [9; 3];
+        let mut scratch = [9; 3];
+        split(units, weights, &mut out, &mut scratch);
+        Some(out)
+    }
+
+    #[test]
+    fn units_go_by_largest_remainders(rt: HostRuntime) -> Result<(), Fail> {
+        // The whole parts by hand, and then one unit each to the largest remainders.
+        let cases = [
+            (10, [6000, 4000, 0], [6, 4, 0]),
+            (2, [6000, 6000, 6000], [1, 1, 0]),
+            (1, [1, 2, 0], [0, 1, 0]),
+            (5, [0, 3, 3], [0, 3, 2]),
+            (0, [0, 7, 0], [0, 0, 0]),
+            // 1.4, 2.8 and 2.8.
+            (7, [1, 2, 2], [1, 3, 3]),
+            // 10^15 units over the greatest weights.
+            (
+                1_000_000_000_000_000,
+                [4_294_967_295, 4_294_967_295, 0],
+                [500_000_000_000_000, 500_000_000_000_000, 0],
+            ),
+        ];
+        for (units, weights, shares) in cases {
+            assert_eq!(rt;
+                split_of(units, &weights),
+                Some(shares),
+                "{units} over {weights:?}"
+            );
+        }
+        Ok(())
+    }
+
+    #[test]
+    #[tactic(auto, using(crate::proofs::ElementLemmas::element_within))]
+    fn units_left_go_to_the_larger_of_many_remainders(rt: HostRuntime) -> Result<(), Fail> {
+        // 50 units over 20 weights of 2, at each third place, and 40 of 1: even shares of 1.25 and
+        // 0.625. The whole parts hold 20 units, and the 30 left go to the weights of 1, whose
+        // remainder is the larger: to the first 30 of them, which are those below place 45.
+        let mut weights = [1u32; 60];
+        for place in 0..20 {
+            weights[3 * place] = 2;
+        }
+        assert!(rt; weights[1] > 0);
+        let mut out = [9u64; 60];
+        let mut scratch = [9u32; 60];
+        split(50, &weights, &mut out, &mut scratch);
+        for place in 0..60 {
+            let share = u64::from(place % 3 == 0 || place < 45);
+            assert_eq!(rt; out[place], share, "at {place}");
+        }
+        Ok(())
+    }
+}
