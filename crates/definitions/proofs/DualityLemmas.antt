@@ -61,7 +61,7 @@ no_share false b x f e pos none = refl
 -- ---- one node
 
 -- k > 0 cancels
-cancelled : (k s q r : ℕ) → 0 < k → k * s ≤ q * r → r ≤ k → s ≤ q
+pub cancelled : (k s q r : ℕ) → 0 < k → k * s ≤ q * r → r ≤ k → s ≤ q
 cancelled k s q r pos share price = elim (cases_lt q s) [
   | inl over ↦ absurd (
       let above : q + 1 ≤ s = omega arith in

@@ -18,3 +18,6 @@ pub mod WaitingLemmas
 pub mod VolumeLemmas
 pub mod UnitLemmas
 pub mod LoadingLaws
+pub mod NodeGapLemmas
+pub mod GapLemmas
+pub mod KnownGaps

@@ -13,3 +13,4 @@ pub mod Choice
 pub mod Volumes
 pub mod SplitLaws
 pub mod VolumeLaws
+pub mod Gap

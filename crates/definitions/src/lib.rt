@@ -5,6 +5,7 @@
 mod arc;
 mod choice;
 mod duality;
+mod gap;
 mod labels;
 mod limits;
 mod loading;
@@ -13,6 +14,7 @@ mod splitting;
 pub use arc::NetArc;
 pub use choice::Choice;
 pub use duality::weak_duality;
+pub use gap::gaps_are_small;
 pub use labels::{labels_are_dual, labels_are_unique};
 pub use limits::{
     ARC_LIMIT, COST_LIMIT, FILE_LIMIT, K_LIMIT, LABEL_LIMIT, NODE_LIMIT, UNIT_LIMIT, VOLUME_LIMIT,
