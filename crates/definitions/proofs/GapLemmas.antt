@@ -28,6 +28,7 @@ use Rattle.definitions.proofs.NodeGapLemmas.{out_le, earned, wait_within}
 
 -- ---- one node
 
+-- volumes leave only by arcs that lead on, so what they cost and what they save make the label, and the wait is within what they save and the part
 pub node_is_within_its_part : NodeIsWithinItsPart
 node_is_within_its_part net destination reached labels demand volumes waited longest loaded enough node lt =
     let label : ℕ = get_or labels node 0 in
@@ -64,6 +65,7 @@ node_is_within_its_part net destination reached labels demand volumes waited lon
 
 -- ---- the sum over nodes
 
+-- over all nodes, what the heads' labels are worth stands on both sides
 pub gap_within_nodes : GapIsWithinNodes
 gap_within_nodes net destination reached labels demand volumes waited longest loaded enough =
     let nodes : List ℕ = node_numbers net in
@@ -127,6 +129,7 @@ has_boarding net destination reached labels solved node lt (Wait _ _) (waits awa
     part true false w = omega arith
     part false more w = omega arith
 
+-- a part is at most the units of the demand and twice the wait, and only nodes with a boarding arc have one
 pub gap_within_slack : GapIsWithinSlack
 gap_within_slack net destination reached labels demand volumes waited longest loaded enough =
     let gap = gap_within_nodes net destination reached labels demand volumes waited longest loaded enough in
@@ -147,6 +150,7 @@ gap_within_slack net destination reached labels demand volumes waited longest lo
 
 -- ---- no units
 
+-- the bound has no term, and no node has a part
 pub no_units_cost_nothing : NoUnitsCostNothing
 no_units_cost_nothing net destination reached labels demand volumes waited loaded none =
     let longest : ℕ = longest_wait net in

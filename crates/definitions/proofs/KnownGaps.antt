@@ -43,9 +43,12 @@ three_lines-choice = refl
 three_lines-cost : cost_of_plan three_lines three_lines_volumes three_lines_waits ≡ 1500000
 three_lines-cost = refl
 
--- the label for each unit: 100000 below the cost
+-- the label for each unit
 three_lines-bound : bound_of_labels three_lines_demand three_lines_labels ≡ 1400000
 three_lines-bound = refl
+
+three_lines-gap : cost_of_plan three_lines three_lines_volumes three_lines_waits ≡ bound_of_labels three_lines_demand three_lines_labels + 100000
+three_lines-gap = refl
 
 three_lines-onward : cost_onward three_lines three_lines_labels three_lines_volumes three_lines_waits 0 ≡ 1500000
 three_lines-onward = refl
@@ -54,26 +57,26 @@ three_lines-longest : longest_wait three_lines ≡ 300000
 three_lines-longest = refl
 
 -- two units and twice 300000
-three_lines-gap : gap_at three_lines 1 three_lines_reached three_lines_labels three_lines_demand three_lines_volumes 300000 0 ≡ 600002
-three_lines-gap = refl
+three_lines-part : gap_at three_lines 1 three_lines_reached three_lines_labels three_lines_demand three_lines_volumes 300000 0 ≡ 600002
+three_lines-part = refl
 
 -- nobody waits at the destination
-three_lines-no_gap : gap_at three_lines 1 three_lines_reached three_lines_labels three_lines_demand three_lines_volumes 300000 1 ≡ 0
-three_lines-no_gap = refl
+three_lines-no_part : gap_at three_lines 1 three_lines_reached three_lines_labels three_lines_demand three_lines_volumes 300000 1 ≡ 0
+three_lines-no_part = refl
 
-three_lines-gaps : sum_by (gap_at three_lines 1 three_lines_reached three_lines_labels three_lines_demand three_lines_volumes 300000) (node_numbers three_lines) ≡ 600002
-three_lines-gaps = refl
+three_lines-parts_of_all : sum_by (gap_at three_lines 1 three_lines_reached three_lines_labels three_lines_demand three_lines_volumes 300000) (node_numbers three_lines) ≡ 600002
+three_lines-parts_of_all = refl
 
 three_lines-slack : slack_of (boarding_stops three_lines) (sum three_lines_demand) (longest_wait three_lines) 1 ≡ 600002
 three_lines-slack = refl
 
 -- a line passes the node, but passengers walk, and the node has no part
-walk_beside_line-no_gap : gap_at walk_beside_line 1 two_lines_reached two_lines_labels two_lines_demand (0 ∷ 10 ∷ 0 ∷ []) 300000 0 ≡ 0
-walk_beside_line-no_gap = refl
+walk_beside_line-no_part : gap_at walk_beside_line 1 two_lines_reached two_lines_labels two_lines_demand (0 ∷ 10 ∷ 0 ∷ []) 300000 0 ≡ 0
+walk_beside_line-no_part = refl
 
 -- without units the node has no part, though the choice is to wait
-three_lines-without_units : gap_at three_lines 1 three_lines_reached three_lines_labels (0 ∷ 0 ∷ []) (0 ∷ 0 ∷ 0 ∷ []) 300000 0 ≡ 0
-three_lines-without_units = refl
+three_lines-no_part_without_units : gap_at three_lines 1 three_lines_reached three_lines_labels (0 ∷ 0 ∷ []) (0 ∷ 0 ∷ 0 ∷ []) 300000 0 ≡ 0
+three_lines-no_part_without_units = refl
 
 -- ---- the three lines meet the conditions of the laws
 
@@ -177,7 +180,7 @@ three_lines-least (suc (suc node)) wait lt long = absurd (omega arith)
 pub three_lines-waits : AreLeastWaits three_lines three_lines_volumes three_lines_waits
 three_lines-waits = record { wait_per_node = refl; enough = three_lines-enough; least = three_lines-least }
 
-pub three_lines-loaded : IsLoaded three_lines 1 three_lines_reached three_lines_labels three_lines_demand three_lines_volumes three_lines_waits
+three_lines-loaded : IsLoaded three_lines 1 three_lines_reached three_lines_labels three_lines_demand three_lines_volumes three_lines_waits
 three_lines-loaded = record {
   well_formed = three_lines-well_formed;
   solves_labels = three_lines-labels;
@@ -186,11 +189,11 @@ three_lines-loaded = record {
   least_waits = three_lines-waits;
 }
 
-pub three_lines-covers : (arc : ℕ) → arc < 3 → IsTrue (is_boarding three_lines arc) → 1800000000 ≤ 300000 * weight_of three_lines arc
+three_lines-covers : (arc : ℕ) → arc < 3 → IsTrue (is_boarding three_lines arc) → 1800000000 ≤ 300000 * weight_of three_lines arc
 three_lines-covers zero lt here = lit≤ tt
 three_lines-covers (suc zero) lt here = lit≤ tt
 three_lines-covers (suc (suc zero)) lt here = lit≤ tt
 three_lines-covers (suc (suc (suc arc))) lt here = absurd (omega arith)
 
-pub three_lines-longest_covers : IsEnoughForEach three_lines 300000
+three_lines-longest_covers : IsEnoughForEach three_lines 300000
 three_lines-longest_covers = three_lines-covers

@@ -1,6 +1,5 @@
 -- At one node: its wait is within what its volumes save against the label, and the node's part of the gap.
-use Rattle.std.proofs.Common.{◌≡◌, ◌≢◌, ℕ, ◌+◌, ◌*◌, ◌<◌, ◌≤◌, ◌==◌, Bool, true, false, not, ◌&&◌, cond, List, length, refl, sym, ◌∙◌, ap, arith, inl, inr, get_or}
-use Rattle.std.specs.Bool.{nat_lt}
+use Rattle.std.proofs.Common.{◌≡◌, ◌≢◌, ℕ, ◌+◌, ◌*◌, ◌<◌, ◌≤◌, ◌==◌, Bool, true, false, not, cond, List, length, refl, sym, ◌∙◌, ap, arith, inl, inr, get_or}
 use Rattle.std.specs.List.{sum_by}
 use Rattle.std.proofs.lemmas.List.Sums.{sum_by-le-sum_by}
 use Rattle.std.proofs.lemmas.Bool.Decides.{eqb_tells}
@@ -15,7 +14,7 @@ use Rattle.definitions.specs.declared.choice.Choice.{Choice}
 use Rattle.definitions.specs.declared.choice.Choice.TheVariants.{Stop, Walk, Wait}
 use Rattle.definitions.specs.Choice.{is_attractive, attractive_arcs}
 use Rattle.definitions.specs.Volumes.{part_of, AreLeastWaits}
-use Rattle.definitions.specs.Gap.{is_to_wait, IsEnoughForEach}
+use Rattle.definitions.specs.Gap.{gap_of, IsEnoughForEach}
 use Rattle.definitions.proofs.Sums.{sum_by-filter, sum_by-add, sum_by-scale, range_le}
 use Rattle.definitions.proofs.DualityLemmas.{cancelled}
 use Rattle.definitions.proofs.SplitLemmas.{shares_near}
@@ -147,7 +146,7 @@ pub wait_within : (net : NetworkData) (destination : ℕ) (reached : List Bool) 
     IsWellFormed net → SolvesLabels net destination reached labels → IsEnoughForEach net longest → AreLeastWaits net volumes waited →
     (node : ℕ) → node < net.nodes → (units : ℕ) → (c : Choice) → IsChosen net destination reached labels node c →
     ((a : ℕ) → a < length net.arcs → tail_of net a ≡ node → get_or volumes a 0 ≡ part_of net reached labels c units a) →
-    get_or waited node 0 ≤ earned net labels volumes node + cond (is_to_wait c && nat_lt 0 units) (units + 2 * longest) 0
+    get_or waited node 0 ≤ earned net labels volumes node + gap_of c units longest
 wait_within net destination reached labels volumes waited longest sound solved enough least node lt units Stop ch parts =
     let none : get_or waited node 0 ≡ 0 = no_wait net volumes waited least node lt (λ a inside from boards. parts a inside from) in
     rw none (omega arith)

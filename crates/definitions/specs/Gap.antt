@@ -17,13 +17,16 @@ is_to_wait Stop = false
 is_to_wait (Walk arc) = false
 is_to_wait (Wait count weight) = true
 
--- a node's part of the gap: where the choice is to wait and there are units, the units and twice the longest wait, else 0
+-- how far units may cost more than their label each, where this is their choice: where they wait, by their number and twice the longest wait
+abbrev pub gap_of : Choice → ℕ → ℕ → ℕ
+gap_of choice units longest = if is_to_wait choice && nat_lt 0 units then units + 2 * longest else 0
+
+-- a node's part of the gap: that of its units at its choice
 abbrev pub gap_at : NetworkData → ℕ → List Bool → List ℕ → List ℕ → List ℕ → ℕ → ℕ → ℕ
 gap_at net destination reached labels demand volumes longest node =
-    if is_to_wait (choice_at net destination reached labels node) && nat_lt 0 (units_at net demand volumes node)
-    then units_at net demand volumes node + 2 * longest else 0
+    gap_of (choice_at net destination reached labels node) (units_at net demand volumes node) longest
 
--- a wait that is enough at each boarding arc for passengers who wait for it alone
+-- a wait that is no shorter than that for any one boarding arc alone, which is k over the arc's weight
 abbrev pub IsEnoughForEach : NetworkData → ℕ → Type 0
 IsEnoughForEach net longest = (arc : ℕ) → arc < length net.arcs → IsTrue (is_boarding net arc) → net.k ≤ longest * weight_of net arc
 
@@ -40,7 +43,7 @@ abbrev pub cost_onward : NetworkData → List ℕ → List ℕ → List ℕ → 
 cost_onward net labels volumes waits node =
     sum_by (λ arc. time_through net labels arc * slice_index volumes arc) (out_arcs net node) + slice_index waits node
 
--- to go on from a node costs its units no more than its label each, and the node's part of the gap
+-- to go on from a node costs at most its label for each of its units, and the node's part of the gap
 abbrev pub NodeIsWithinItsPart : Type 0
 NodeIsWithinItsPart = (net : NetworkData) (destination : ℕ) (reached : List Bool) (labels demand volumes waits : List ℕ) (longest : ℕ) →
     IsLoaded net destination reached labels demand volumes waits → IsEnoughForEach net longest → (node : ℕ) → node < net.nodes →
