@@ -13,7 +13,7 @@ use Rattle.definitions.specs.Duality.{WeakDuality}
 use Rattle.definitions.proofs.Sums.{sum_by-filter, sum_by-scale, sum_by-add, sum_by-same, sum_by-none, range_le, range_same, gathered}
 
 -- the sum of a list, by places
-places : (f : ℕ → ℕ) (a : ℕ) (xs : List ℕ) → ((i : ℕ) → i < length xs → f (a + i) ≡ get_or xs i 0) → sum_by f (range_with_len a (length xs)) ≡ sum xs
+pub places : (f : ℕ → ℕ) (a : ℕ) (xs : List ℕ) → ((i : ℕ) → i < length xs → f (a + i) ≡ get_or xs i 0) → sum_by f (range_with_len a (length xs)) ≡ sum xs
 places f a [] h = refl
 places f a (x ∷ xs) h =
     sum_by-cons f a (range_with_len (a + 1) (length xs))
@@ -22,7 +22,7 @@ places f a (x ∷ xs) h =
     ∙ sym (sum_by-cons (λ v. v) x xs)
 
 -- a term of a sum that is 0 is 0
-zero_term : (f : ℕ → ℕ) (n a : ℕ) → a < n → sum_by f (range_with_len 0 n) ≤ 0 → f a ≡ 0
+pub zero_term : (f : ℕ → ℕ) (n a : ℕ) → a < n → sum_by f (range_with_len 0 n) ≤ 0 → f a ≡ 0
 zero_term f n a lt h =
     let within : a < length (range_with_len 0 n) = rw length-range_with_len lt in
     let part : f (get_or (range_with_len 0 n) a 0) ≤ sum_by f (range_with_len 0 n) = get_or-le-sum_by f (range_with_len 0 n) a 0 within in
@@ -61,7 +61,7 @@ no_share false b x f e pos none = refl
 -- ---- one node
 
 -- k > 0 cancels
-cancelled : (k s q r : ℕ) → 0 < k → k * s ≤ q * r → r ≤ k → s ≤ q
+pub cancelled : (k s q r : ℕ) → 0 < k → k * s ≤ q * r → r ≤ k → s ≤ q
 cancelled k s q r pos share price = elim (cases_lt q s) [
   | inl over ↦ absurd (
       let above : q + 1 ≤ s = omega arith in

@@ -1,6 +1,6 @@
 -- Values worked out by hand, which the definitions of reach and labels give.
-use Rattle.std.proofs.Common.{◌≡◌, ◌≢◌, ℕ, zero, suc, ◌+◌, ◌*◌, ◌-◌, ◌<◌, ◌≤◌, ◌↔◌, ◌⊎◌, Bool, List, [], ◌∷◌, refl, sym, arith, lit≤, lit<, IsTrue, inl, inr}
-use Rattle.std.specs.Prelude.{IsFalse, true, false, slice_index, length}
+use Rattle.std.proofs.Common.{◌≡◌, ◌≢◌, ℕ, zero, suc, ◌+◌, ◌*◌, ◌-◌, ◌<◌, ◌≤◌, ◌↔◌, Bool, List, [], ◌∷◌, refl, sym, arith, lit≤, lit<, IsTrue, inl, inr}
+use Rattle.std.specs.Prelude.{IsFalse, true, false, slice_index}
 use Rattle.definitions.specs.Network.{NetworkData, tail_of, head_of, is_boarding}
 use Rattle.definitions.specs.Dual.{time_through}
 use Rattle.definitions.specs.Reach.{IsPath, Reaches, IsReach, is_reached}
@@ -25,9 +25,9 @@ no_way (zero ∷ path) p = absurd cc
 no_way (suc arc ∷ path) p = absurd (omega arith)
 
 cut_off-exact : (node : ℕ) → node < 3 → IsTrue (is_reached cut_off_reached node) ↔ Reaches cut_off 1 node
-cut_off-exact zero lt = ((λ _. (0 ∷ [] , (lit< tt , refl , refl))) , (λ _. refl))
-cut_off-exact (suc zero) lt = ((λ _. ([] , refl)) , (λ _. refl))
-cut_off-exact (suc (suc zero)) lt = ((λ t. absurd cc) , (λ w. absurd (no_way w.0 w.1)))
+cut_off-exact zero lt = ((λ _. (0 ∷ [], (lit< tt, refl, refl))), (λ _. refl))
+cut_off-exact (suc zero) lt = ((λ _. ([], refl)), (λ _. refl))
+cut_off-exact (suc (suc zero)) lt = ((λ t. absurd cc), (λ w. absurd (no_way w.0 w.1)))
 cut_off-exact (suc (suc (suc node))) lt = absurd (omega arith)
 
 pub cut_off-reach : IsReach cut_off 1 cut_off_reached
@@ -59,7 +59,7 @@ cut_off-below (suc (suc (suc other))) lt here = absurd (omega arith)
 cut_off-elsewhere : (node : ℕ) → node < 3 → IsFalse (is_reached cut_off_reached node) → IsHighest cut_off cut_off_reached cut_off_labels node
 cut_off-elsewhere zero lt here = absurd cc
 cut_off-elsewhere (suc zero) lt here = absurd cc
-cut_off-elsewhere (suc (suc zero)) lt here = record { one = (0 , lit< tt , refl , refl); highest = cut_off-below }
+cut_off-elsewhere (suc (suc zero)) lt here = record { one = (0, lit< tt, refl, refl); highest = cut_off-below }
 cut_off-elsewhere (suc (suc (suc node))) lt here = absurd (omega arith)
 
 -- node 2 has the label of node 0, the greatest of those that reach, and not 0

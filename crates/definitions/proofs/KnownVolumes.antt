@@ -40,7 +40,7 @@ two_lines-stop = refl
 
 two_lines-parts : (arc : ℕ) → arc < 2 → slice_index two_lines_volumes arc ≡
     part_of two_lines two_lines_reached two_lines_labels (choice_at two_lines 1 two_lines_reached two_lines_labels (tail_of two_lines arc))
-      (units_at two_lines two_lines_demand two_lines_volumes (tail_of two_lines arc)) arc
+    (units_at two_lines two_lines_demand two_lines_volumes (tail_of two_lines arc)) arc
 two_lines-parts zero lt = refl
 two_lines-parts (suc zero) lt = refl
 two_lines-parts (suc (suc arc)) lt = absurd (omega arith)

@@ -1,5 +1,7 @@
 pub mod Sums
 pub mod DualityLemmas
+pub mod SavingLemmas
+pub mod LabelLemmas
 pub mod Spans
 pub mod Grouped
 pub mod TotalsLemmas
@@ -9,3 +11,14 @@ pub mod KnownSplits
 pub mod KnownLabels
 pub mod KnownVolumes
 pub mod FourStopsLabels
+pub mod RankLemmas
+pub mod SplitLemmas
+pub mod SpanSplitLemmas
+pub mod ChoiceLemmas
+pub mod WaitingLemmas
+pub mod VolumeLemmas
+pub mod UnitLemmas
+pub mod LoadingLaws
+pub mod NodeGapLemmas
+pub mod GapLemmas
+pub mod KnownGaps

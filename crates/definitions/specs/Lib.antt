@@ -7,6 +7,10 @@ pub mod Duality
 pub mod Totals
 pub mod Reach
 pub mod Labels
+pub mod LabelLaws
 pub mod Split
 pub mod Choice
 pub mod Volumes
+pub mod SplitLaws
+pub mod VolumeLaws
+pub mod Gap

@@ -1,0 +1,12 @@
+pub mod SumLemmas
+pub mod Tops
+pub mod Steps
+pub mod Tallies
+pub mod Ends
+pub mod Spread
+pub mod Walk
+pub mod Moves
+pub mod Taking
+pub mod Whole
+pub mod Heaps
+pub mod Queues

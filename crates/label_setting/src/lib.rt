@@ -1,0 +1,11 @@
+//! Labels to one destination after another, in room that is made once.
+#![tactic(auto)]
+
+mod heap;
+mod queue;
+mod settling;
+mod solving;
+mod workspace;
+
+pub use queue::{Queue, Taken};
+pub use workspace::{Workspace, labels};

@@ -1,0 +1,12 @@
+mod ElementLemmas
+mod OrderLemmas
+mod ShareLemmas
+mod CutLemmas
+mod WaitLemmas
+mod SpanLemmas
+mod StepLemmas
+mod ChosenLemmas
+mod WeighedLemmas
+mod MiddleLemmas
+mod NoUnitLemmas
+mod PlanLemmas
