@@ -81,7 +81,7 @@ four_stops-labels = record {
 
 four_stops-parts : (arc : ℕ) → arc < 10 → slice_index four_stops_flows arc ≡
     part_of four_stops four_stops_reached four_stops_labels (choice_at four_stops 3 four_stops_reached four_stops_labels (tail_of four_stops arc))
-      (units_at four_stops four_stops_demand four_stops_flows (tail_of four_stops arc)) arc
+    (units_at four_stops four_stops_demand four_stops_flows (tail_of four_stops arc)) arc
 four_stops-parts zero lt = refl
 four_stops-parts (suc zero) lt = refl
 four_stops-parts (suc (suc zero)) lt = refl

@@ -140,10 +140,10 @@ walk_to_lines-placed (suc (suc (suc zero))) lt = refl
 walk_to_lines-placed (suc (suc (suc (suc place)))) lt = absurd (omega arith)
 
 walk_to_lines-all : (node : ℕ) → IsTrue (is_reached walk_to_lines_reached node) → (place : ℕ) × (place < 4) × (slice_index walk_to_lines_order place ≡ node)
-walk_to_lines-all zero here = (2 , lit< tt , refl)
-walk_to_lines-all (suc zero) here = (1 , lit< tt , refl)
-walk_to_lines-all (suc (suc zero)) here = (3 , lit< tt , refl)
-walk_to_lines-all (suc (suc (suc zero))) here = (0 , lit< tt , refl)
+walk_to_lines-all zero here = (2, lit< tt, refl)
+walk_to_lines-all (suc zero) here = (1, lit< tt, refl)
+walk_to_lines-all (suc (suc zero)) here = (3, lit< tt, refl)
+walk_to_lines-all (suc (suc (suc zero))) here = (0, lit< tt, refl)
 walk_to_lines-all (suc (suc (suc (suc node)))) here = absurd cc
 
 walk_to_lines-sorted : (place later : ℕ) → place < later → later < 4 →
@@ -161,7 +161,7 @@ walk_to_lines-order = record { reaching = walk_to_lines-placed; all = walk_to_li
 
 -- of two nodes with one label that of the lower number stands before the other, and not the other way
 lower_first : StandsBefore (7 ∷ 7 ∷ []) 0 1
-lower_first = inr (refl , lit< tt)
+lower_first = inr (refl, lit< tt)
 
 not_higher_first : StandsBefore (7 ∷ 7 ∷ []) 1 0 → ⊥
 not_higher_first (inl less) = omega arith

@@ -3,7 +3,6 @@
 -- over 10, which is 720000, make the label of 900000. The slower line leads on in just this label, so ten units split 6 to 4.
 use Rattle.std.proofs.Common.{◌≡◌, ℕ, zero, suc, ◌*◌, ◌<◌, ◌≤◌, Bool, List, [], ◌∷◌, refl, arith, lit≤, lit<, IsTrue}
 use Rattle.std.specs.Prelude.{true, IsFalse, slice_index}
-use Rattle.definitions.specs.declared.choice.Choice.{Choice}
 use Rattle.definitions.specs.declared.choice.Choice.TheVariants.{Stop, Walk, Wait}
 use Rattle.definitions.specs.Network.{NetworkData, tail_of, is_boarding}
 use Rattle.definitions.specs.Plan.{IsWaitedFor, cost_of_plan}
@@ -103,7 +102,7 @@ walkers_waits = 0 ∷ 600000 ∷ 0 ∷ 0 ∷ []
 
 walkers-parts : (arc : ℕ) → arc < 4 → slice_index walkers_volumes arc ≡
     part_of walk_to_lines walk_to_lines_reached walk_to_lines_labels (choice_at walk_to_lines 3 walk_to_lines_reached walk_to_lines_labels (tail_of walk_to_lines arc))
-      (units_at walk_to_lines walkers walkers_volumes (tail_of walk_to_lines arc)) arc
+    (units_at walk_to_lines walkers walkers_volumes (tail_of walk_to_lines arc)) arc
 walkers-parts zero lt = refl
 walkers-parts (suc zero) lt = refl
 walkers-parts (suc (suc zero)) lt = refl

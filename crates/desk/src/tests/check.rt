@@ -43,7 +43,12 @@ fn run_words(
     room: usize,
 ) -> Result<Ran, AllocError> {
     let bytes = Blob::new(Vec::from_slice(rt.alloc(), file.1.as_bytes())?);
-    run_over(rt, words, folder_of(rt, file.0, bytes, 1000, failing)?, room)
+    run_over(
+        rt,
+        words,
+        folder_of(rt, file.0, bytes, 1000, failing)?,
+        room,
+    )
 }
 
 // Runs the words over a folder. `room` is that of the output.

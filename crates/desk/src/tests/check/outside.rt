@@ -58,7 +58,10 @@ fn refuses_a_file_past_its_limit(rt: HostRuntime) -> Result<(), Fail> {
     let ran = run_over(&rt, &["check", "c"], folder, 10)?;
     assert_eq!(rt; ran.status.code, 7);
     assert_eq!(rt; ran.out.bytes(), b"".as_slice());
-    assert_eq!(rt; ran.err.bytes(), b"error 7: range file 268435457\n".as_slice());
+    assert_eq!(rt;
+        ran.err.bytes(),
+        b"error 7: range file 268435457\n".as_slice()
+    );
     Ok(())
 }
 
