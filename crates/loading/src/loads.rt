@@ -1,7 +1,7 @@
 //! The volumes and waits of one destination after another, in room that is made once.
 
-ghost use Rattle.std.specs.Prelude.{◌≡◌, ◌≤◌, ℕ, ◌<◌, length, replicate, sum, slice_index, MatchOption, IfOk, OnOk, IfErr, OnErr};
-ghost use Rattle.definitions.specs.declared.limits.TheConstants.{NODE_LIMIT, UNIT_LIMIT};
+ghost use Rattle.std.specs.Prelude.{◌≡◌, ◌≤◌, length, replicate, sum, slice_index, MatchOption, IfOk, OnOk, IfErr, OnErr};
+ghost use Rattle.definitions.specs.declared.limits.TheConstants.{UNIT_LIMIT};
 ghost use Rattle.definitions.specs.Plan.{IsPlan};
 ghost use Rattle.definitions.specs.Reach.{IsReach};
 ghost use Rattle.definitions.specs.Labels.{SolvesLabels, IsOrder};
@@ -180,3 +180,6 @@ fn first_unreached(net: &Network, demand: &[u64], reached: &[bool]) -> Option<u3
     }
     None
 }
+
+#[cfg(test)]
+mod tests;
