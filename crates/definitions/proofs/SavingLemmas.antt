@@ -1,13 +1,12 @@
 -- What waiting for some arcs saves: the sum of weight times how far a label exceeds what each leads to.
-use Rattle.std.proofs.Common.{◌≡◌, ◌≢◌, ℕ, ◌+◌, ◌-◌, ◌*◌, ◌<◌, ◌≤◌, ◌==◌, ◌&&◌, Bool, true, false, cond, List, length, refl, sym, ◌∙◌, ap, arith, inl, inr, ◌⊎◌}
+use Rattle.std.proofs.Common.{◌≡◌, ℕ, ◌-◌, ◌*◌, ◌<◌, ◌≤◌, ◌==◌, ◌&&◌, Bool, true, false, cond, List, length, refl, ◌∙◌, arith, inl, inr, ◌⊎◌}
 use Rattle.std.specs.List.{sum_by, range_with_len}
 use Rattle.std.proofs.Math.Nat.{mul-le-mul_left}
 use Rattle.definitions.specs.Network.{NetworkData, tail_of, head_of, weight_of, is_boarding, arc_numbers, boarding_arcs, out_arcs}
 use Rattle.definitions.specs.Dual.{time_through, weighted_savings}
 use Rattle.definitions.specs.Reach.{is_reached}
 use Rattle.definitions.specs.Labels.{reaching_boardings}
-use Rattle.std.proofs.lemmas.Bool.{eqb-true, eqb-false}
-use Rattle.definitions.proofs.Sums.{sum_by-filter, sum_by-same, sum_by-scale, sum_by-add, range_le, range_same, one_term}
+use Rattle.definitions.proofs.Sums.{sum_by-filter, sum_by-same, range_le}
 
 -- over the arcs below n that are here
 abbrev pub saved : ℕ → (ℕ → Bool) → (ℕ → ℕ) → (ℕ → ℕ) → ℕ → ℕ

@@ -123,18 +123,12 @@ fn the_least_node_that_does_not_reach_is_named(rt: HostRuntime) -> Result<(), Fa
     let net = Network::new(4, arcs, 1_800_000_000)?;
     let ws = labelled(rt.alloc(), &net, 1)?;
     let mut loads = Loads::new(rt.alloc(), &net)?;
-    for (demand, loaded) in [
-        ([1, 0, 0, 0], Ok(())),
-        ([1, 0, 0, 1], Err(Unreachable { node: 3 })),
-        ([1, 0, 1, 1], Err(Unreachable { node: 2 })),
-    ] {
-        assert!(rt; demand[1] == 0);
-        assert_eq!(rt;
-            load(&net, 1, &ws, &demand, &mut loads),
-            loaded,
-            "{demand:?}"
-        );
-    }
+    let loaded = load(&net, 1, &ws, &[1, 0, 0, 0], &mut loads);
+    assert_eq!(rt; loaded, Ok(()));
+    let loaded = load(&net, 1, &ws, &[1, 0, 0, 1], &mut loads);
+    assert_eq!(rt; loaded, Err(Unreachable { node: 3 }));
+    let loaded = load(&net, 1, &ws, &[1, 0, 1, 1], &mut loads);
+    assert_eq!(rt; loaded, Err(Unreachable { node: 2 }));
     // Nothing is left of what was loaded before.
     assert_eq!(rt; loads.volumes(), [0].as_slice());
     assert_eq!(rt; loads.waits(), [0, 0, 0, 0].as_slice());
