@@ -1,15 +1,18 @@
 -- No unit comes to a node twice: a node has no more units than there is demand.
-use Rattle.std.proofs.Common.{◌≡◌, ℕ, ◌+◌, ◌*◌, ◌<◌, ◌≤◌, ◌==◌, Bool, true, false, cond, List, length, ◌∙◌, ap, arith, inl, inr, ◌⊎◌, get_or}
+use Rattle.std.proofs.Common.{◌≡◌, ℕ, ◌+◌, ◌*◌, ◌<◌, ◌≤◌, ◌==◌, Bool, true, false, cond, List, length, refl, ◌∙◌, ap, arith, inl, inr, ◌⊎◌, get_or}
 use Rattle.std.specs.Bool.{nat_lt, nat_le}
-use Rattle.std.specs.List.{sum_by, sum}
-use Rattle.std.proofs.lemmas.List.Sums.{sum_by-le-sum_by}
+use Rattle.std.specs.List.{sum_by, sum, range_with_len}
+use Rattle.std.proofs.lemmas.List.Sums.{sum_by-le-sum_by, get_or-le-sum_by}
+use Rattle.std.proofs.lemmas.List.FromFn.{get_or-range_with_len, length-range_with_len}
 use Rattle.std.proofs.lemmas.Bool.Decides.{eqb_tells}
-use Rattle.std.proofs.lemmas.Bool.{cases_lt, cases_Bool, leb-true, ltb-true, le-leb, lt-ltb, le-ltb}
+use Rattle.std.proofs.lemmas.Bool.{cases_lt, cases_eq, cases_Bool, eq-eqb, leb-true, ltb-true, le-leb, lt-ltb, le-ltb}
 use Rattle.std.proofs.Math.Nat.{mul-le-mul_left, mul-le-mul_right}
 use Rattle.definitions.specs.Network.{NetworkData, IsWellFormed, tail_of, head_of, arc_numbers, node_numbers, out_arcs, in_arcs}
-use Rattle.definitions.specs.Volumes.{units_at}
-use Rattle.definitions.specs.VolumeLaws.{UnitsAreWithinDemand}
-use Rattle.definitions.proofs.Sums.{sum_by-add, sum_by-same, range_le, one_term, gathered}
+use Rattle.definitions.specs.Volumes.{part_of, units_at, SolvesVolumes}
+use Rattle.definitions.specs.Choice.{choice_at}
+use Rattle.definitions.specs.declared.choice.Choice.TheVariants.{Stop}
+use Rattle.definitions.specs.VolumeLaws.{UnitsAreWithinDemand, VolumesAreWithinDemand}
+use Rattle.definitions.proofs.Sums.{sum_by-filter, sum_by-add, sum_by-same, range_le, one_term, gathered}
 use Rattle.definitions.proofs.DualityLemmas.{places}
 use Rattle.definitions.proofs.ChoiceLemmas.{LeadsOn}
 use Rattle.definitions.proofs.VolumeLemmas.{conserves, carries}
@@ -88,3 +91,37 @@ units_are_within_demand net destination reached labels demand volumes sound solv
     let all = conserves net destination reached labels demand volumes solved solves carried j inside
     (λ at. let none : get_or labels j 0 ≡ 0 = ap (λ k. get_or labels k 0) at ∙ solved.zero_at_destination in omega arith) in
     omega arith)
+
+-- a term of a sum over a range is within the sum
+term_within : (f : ℕ → ℕ) (n a : ℕ) → a < n → f a ≤ sum_by f (range_with_len 0 n)
+term_within f n a lt =
+    let part : f (get_or (range_with_len 0 n) a 0) ≤ sum_by f (range_with_len 0 n) = get_or-le-sum_by f (range_with_len 0 n) a 0 (omega (arith, length-range_with_len 0 n)) in
+    let named : get_or (range_with_len 0 n) a 0 ≡ a = get_or-range_with_len 0 n a 0 lt ∙ (let z : 0 + a ≡ a = omega arith in z) in
+    let same : f (get_or (range_with_len 0 n) a 0) ≡ f a = ap f named in
+    omega arith
+
+-- nobody goes on at the destination
+destination_stops : (net : NetworkData) (destination : ℕ) (reached : List Bool) (labels : List ℕ) (i : ℕ) → i ≡ destination → choice_at net destination reached labels i ≡ Stop
+destination_stops net destination reached labels i at = rw (eq-eqb i destination at) refl
+
+-- nothing leaves the destination
+none_leaves : (net : NetworkData) (destination : ℕ) (reached : List Bool) (labels demand volumes : List ℕ) → SolvesVolumes net destination reached labels demand volumes →
+    (a : ℕ) → a < length net.arcs → tail_of net a ≡ destination → get_or volumes a 0 ≡ 0
+none_leaves net destination reached labels demand volumes solves a lt at =
+    let stops : choice_at net destination reached labels (tail_of net a) ≡ Stop = destination_stops net destination reached labels (tail_of net a) at in
+    solves.parts a lt ∙ ap (λ c. part_of net reached labels c (units_at net demand volumes (tail_of net a)) a) stops
+
+pub volumes_are_within_demand : VolumesAreWithinDemand
+volumes_are_within_demand net destination reached labels demand volumes sound solved carried solves a lt =
+    let node : ℕ = tail_of net a in
+    let leaving : ℕ → ℕ = λ b. cond (tail_of net b == node) (get_or volumes b 0) 0 in
+    elim (cases_eq node destination) [
+      | inl at ↦ (let none = none_leaves net destination reached labels demand volumes solves a lt at in omega arith)
+      | inr away ↦ (
+          let here : leaving a ≡ get_or volumes a 0 = rw (eq-eqb node node refl) refl in
+          let part : leaving a ≤ sum_by leaving (arc_numbers net) = term_within leaving (length net.arcs) a lt in
+          let all : sum_by (λ b. get_or volumes b 0) (out_arcs net node) ≡ sum_by leaving (arc_numbers net) = sum_by-filter (λ b. get_or volumes b 0) (λ b. tail_of net b == node) (arc_numbers net) in
+          let sent = conserves net destination reached labels demand volumes solved solves carried node (sound.tails a lt) away in
+          let units = units_are_within_demand net destination reached labels demand volumes sound solved carried solves node (sound.tails a lt) in
+          omega arith)
+    ]

@@ -25,6 +25,13 @@ UnitsAreWithinDemand = (net : NetworkData) (destination : ℕ) (reached : List B
     SolvesVolumes net destination reached labels demand volumes →
     (node : ℕ) → node < net.nodes → units_at net demand volumes node ≤ sum demand
 
+-- no arc has more volume than there is demand
+abbrev pub VolumesAreWithinDemand : Type 0
+VolumesAreWithinDemand = (net : NetworkData) (destination : ℕ) (reached : List Bool) (labels demand volumes : List ℕ) → IsWellFormed net →
+    SolvesLabels net destination reached labels → IsCarried net destination reached demand →
+    SolvesVolumes net destination reached labels demand volumes →
+    (arc : ℕ) → arc < length net.arcs → slice_index volumes arc ≤ sum demand
+
 -- one list solves the equations of volumes, whatever the labels are
 abbrev pub VolumesAreOne : Type 0
 VolumesAreOne = (net : NetworkData) (destination : ℕ) (reached : List Bool) (labels demand volumes others : List ℕ) → IsWellFormed net →

@@ -10,3 +10,4 @@ mod WeighedLemmas
 mod MiddleLemmas
 mod NoUnitLemmas
 mod PlanLemmas
+mod BoundLemmas

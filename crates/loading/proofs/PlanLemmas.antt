@@ -1,5 +1,5 @@
 -- Loaded volumes and waits are a plan.
-use Rattle.std.proofs.Common.{◌≡◌, ℕ, ◌<◌, Bool, List, length, sum, arith, inl, inr, get_or, IsTrue, sym, ◌∙◌}
+use Rattle.std.proofs.Common.{◌≡◌, ℕ, Bool, List, length, arith, inl, inr, get_or, sym, ◌∙◌}
 use Rattle.std.proofs.lemmas.Bool.{cases_lt, false≢true}
 use Rattle.definitions.specs.Network.{NetworkData, IsWellFormed}
 use Rattle.definitions.specs.Plan.{IsPlan}
@@ -9,7 +9,7 @@ use Rattle.definitions.proofs.LoadingLaws.{volumes_are_a_plan}
 use Rattle.loading.specs.Marks.{AllMarked}
 
 -- a demand of marked nodes can be carried
-carried : (net : NetworkData) (destination : ℕ) (reached : List Bool) (demand : List ℕ) → length demand ≡ net.nodes → get_or demand destination 0 ≡ 0 →
+pub carried : (net : NetworkData) (destination : ℕ) (reached : List Bool) (demand : List ℕ) → length demand ≡ net.nodes → get_or demand destination 0 ≡ 0 →
     AllMarked reached demand → IsCarried net destination reached demand
 carried net destination reached demand long none marked = record {
   demand_per_node = long;

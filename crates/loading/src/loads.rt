@@ -1,7 +1,7 @@
 //! The volumes and waits of one destination after another, in room that is made once.
 
-ghost use Rattle.std.specs.Prelude.{◌≡◌, ◌≤◌, ℕ, ◌<◌, length, replicate, sum, slice_index, MatchOption, IfOk, OnOk, IfErr, OnErr};
-ghost use Rattle.definitions.specs.declared.limits.TheConstants.{NODE_LIMIT, UNIT_LIMIT};
+ghost use Rattle.std.specs.Prelude.{◌≡◌, ◌≤◌, All, length, replicate, sum, slice_index, MatchOption, IfOk, OnOk, IfErr, OnErr};
+ghost use Rattle.definitions.specs.declared.limits.TheConstants.{UNIT_LIMIT, WAIT_LIMIT};
 ghost use Rattle.definitions.specs.Plan.{IsPlan};
 ghost use Rattle.definitions.specs.Reach.{IsReach};
 ghost use Rattle.definitions.specs.Labels.{SolvesLabels, IsOrder};
@@ -108,6 +108,8 @@ pub fn load(
     ensures unreachable { IfErr result (λ fault. IsFirstUnreachable net.now dest demand.now fault.node) }
     ensures nothing { OnErr result (loads.new ≡ nothing_loaded net.now) }
     ensures room { HasRoomFor net.now loads.new }
+    ensures volumes_within { All (λ volume. volume ≤ sum demand.now) loads.new.volumes }
+    ensures waits_within { All (λ wait. wait ≤ WAIT_LIMIT) loads.new.waits }
 {
     load_onto(
         net,
@@ -153,6 +155,8 @@ fn load_onto(
     ensures unreachable { IfErr result (λ fault. IsFirstUnreachable net.now dest demand.now fault.node) }
     ensures no_volumes { OnErr result (volumes.new ≡ replicate (length net.now.arcs) 0) }
     ensures no_waits { OnErr result (waits.new ≡ replicate net.now.nodes 0) }
+    ensures volumes_within { All (λ volume. volume ≤ sum demand.now) volumes.new }
+    ensures waits_within { All (λ wait. wait ≤ WAIT_LIMIT) waits.new }
 {
     net.rules();
     volumes.fill(0);
@@ -180,3 +184,6 @@ fn first_unreached(net: &Network, demand: &[u64], reached: &[bool]) -> Option<u3
     }
     None
 }
+
+#[cfg(test)]
+mod tests;

@@ -168,3 +168,80 @@ fn weight_at(net: &Network, arc: u32) -> u32
 {
     net.arc(arc).weight.unwrap_or(0)
 }
+
+#[cfg(test)]
+mod tests {
+    use super::*;
+    use lp_model::NetArc;
+    use std::test::Fail;
+
+    fn arc(head: u32, cost: u32, weight: Option<u32>) -> NetArc {
+        NetArc {
+            tail: 0,
+            head,
+            cost,
+            weight,
+        }
+    }
+
+    #[test]
+    fn passengers_choose_by_labels(rt: HostRuntime) -> Result<(), Fail> {
+        // Lines 0 and 1 lead to node 1 in 600 and 900, line 2 to node 2, from which no way leads
+        // on; walks 3 and 4 take 900.
+        let arcs = vec![in rt.alloc();
+            arc(1, 600, Some(6)),
+            arc(1, 900, Some(4)),
+            arc(2, 1, Some(9)),
+            arc(1, 900, None),
+            arc(1, 900, None),
+        ]?;
+        let net = Network::new(3, arcs, 1800)?;
+        assert!(rt; net.nodes() == 3 && net.arcs() == 5);
+        let reached = [true, true, false];
+        // At the label of the walks the first of them is taken; just below it line 0 alone is
+        // boarded, and just above both lines, if a walk does not end it.
+        let cases = [
+            (900, 0, Choice::Walk { arc: 3 }),
+            (
+                899,
+                0,
+                Choice::Wait {
+                    count: 1,
+                    weight: 6,
+                },
+            ),
+            (
+                901,
+                0,
+                Choice::Wait {
+                    count: 2,
+                    weight: 10,
+                },
+            ),
+            (
+                599,
+                0,
+                Choice::Wait {
+                    count: 0,
+                    weight: 0,
+                },
+            ),
+            (900, 1, Choice::Stop),
+            (900, 2, Choice::Stop),
+        ];
+        for (label, node, choice) in cases {
+            assert!(rt; node < 3);
+            let labels = [label, 0, 900];
+            assert_eq!(rt;
+                choose(&net, &labels, &reached, 1, node),
+                choice,
+                "{label} at {node}"
+            );
+        }
+        assert!(rt; attractive(&net, &[900, 0, 900], &reached, 1));
+        assert!(rt; !attractive(&net, &[899, 0, 899], &reached, 1));
+        assert!(rt; !attractive(&net, &[900, 0, 900], &reached, 2));
+        assert!(rt; !attractive(&net, &[900, 0, 900], &reached, 3));
+        Ok(())
+    }
+}
