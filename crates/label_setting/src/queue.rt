@@ -53,7 +53,7 @@ impl Queue {
     }
 
     /// The number of an item in the queue.
-    pub fn get(&self, item: u32) -> Option<u64>
+    pub fn number(&self, item: u32) -> Option<u64>
         requires { item < length self.now }
         ensures { result ≡ queued self.now item }
     {
@@ -80,7 +80,7 @@ impl Queue {
         requires { item < length self.old }
         ensures { self.new ≡ slice_set self.old item (Some (lesser_of (queued self.old item) bound)) }
     {
-        match self.get(item) {
+        match self.number(item) {
             Some(number) if number < bound => self.put(item, number),
             _ => self.put(item, bound),
         }

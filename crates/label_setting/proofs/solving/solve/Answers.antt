@@ -2,7 +2,7 @@ use Rattle.std.proofs.Common.{◌≡◌, ℕ, ◌<◌, ◌≤◌, length, get_or
 use Rattle.std.proofs.lemmas.List.{get_or_default}
 use Rattle.label_setting.specs.Settling.{mark_in, label_in, order_in}
 use Rattle.definitions.specs.Reach.{is_reached}
-use Rattle.label_setting.proofs.Whole.{Finish, finish, last_of}
+use Rattle.label_setting.proofs.WholeLemmas.{Finish, finish, last_of}
 use Rattle.label_setting.proofs.solving.solve.Goals as goal
 
 ends : (c : goal.After-fill) → Finish c.args.net.now c.args.dest c.run.new.state.reached.items c.fill.new.labels.items (order_in c.run.new.state)

@@ -92,13 +92,13 @@ top_free net t seen joins these those i o a lt tail free now others boards more 
         (λ b blt btail bb here. inr (sym (boards b blt bb) ∙ here, omega arith));
   }
 
--- the quotient tells what waiting permits, where all that wait lead to at most a permitted level
+-- the quotient tells what waiting permits, where all that wait lead to at most one tick more than a permitted level
 quotient : (k f w p v : ℕ) → 0 < f → v * f ≤ p + w → p ≤ k → v ≤ (k + w) / f
 quotient k f w p v pos le within = (le-div_iff_mul-le pos).1 (omega arith)
 
 pub top_join : (net : NetworkData) (t : ℕ → ℕ) (seen joins those : ℕ → Bool) (i : ℕ) (o : Option ℕ) (a level f w : ℕ) →
     a < length net.arcs → tail_of net a ≡ i → is_boarding net a ≡ true → t a ≡ level → Within o level →
-    ((b : ℕ) → b < length net.arcs → tail_of net b ≡ i → is_boarding net b ≡ true → those b ≡ true → t b ≤ level) →
+    ((b : ℕ) → b < length net.arcs → tail_of net b ≡ i → is_boarding net b ≡ true → those b ≡ true → t b ≤ level + 1) →
     ((b : ℕ) → b < length net.arcs → is_boarding net b ≡ true → b ≢ a → those b ≡ joins b) →
     ((b : ℕ) → b < length net.arcs → is_boarding net b ≡ true → joins b ≡ true → those b ≡ true) →
     f ≡ weighed (length net.arcs) (carries net those i) (weight_of net) →
@@ -116,7 +116,7 @@ top_join net t seen joins those i o a level f w lt tail boards at within low oth
         (λ b blt btail bfree now. inr (now, omega arith))
         (λ b blt btail bb now. elim (cases_eq b a) [ inl e ↦ inl (rw e (omega arith)) | inr ne ↦ inr (sym (others b blt bb ne) ∙ now, omega arith) ]) in
     let floor : level ≤ (net.k + w) / f = at_most level level_allowed.waiting in
-    let price_at : (v : ℕ) → level ≤ v → v ≤ (net.k + w) / f → saved m here g t v ≤ net.k = λ v high le.
+    let price_at : (v : ℕ) → level + 1 ≤ v → v ≤ (net.k + w) / f → saved m here g t v ≤ net.k = λ v high le.
         let exact = saved_exact m here g t v (λ b blt c. let cr = carried net those i b c in let l = low b blt cr.tail cr.boards cr.here in omega arith) in
         let times : v * f ≤ net.k + w = (le-div_iff_mul-le pos).0 le in
         let e : v * f ≡ v * weighed m here g = ap (λ x. v * x) weight in
@@ -130,7 +130,7 @@ top_join net t seen joins those i o a level f w lt tail boards at within low oth
       all = λ v h. let both = lesser_within o ((net.k + w) / f) v h in
           record {
             free = (top.all v both.0).free;
-            waiting = elim (cases_lt v level) [
+            waiting = elim (cases_lt v (level + 1)) [
                 inl less ↦ (allows_by net t seen those t seen those i level v (omega arith) level_allowed
                   (λ b blt btail bfree now. inr (now, omega arith))
                   (λ b blt btail bb now. inr (now, omega arith))).waiting
