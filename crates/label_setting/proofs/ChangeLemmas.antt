@@ -1,7 +1,7 @@
 -- Functions that change at one place, and the order of items by their numbers.
-use Rattle.std.proofs.Common.{◌≡◌, ◌≢◌, ℕ, ◌+◌, ◌<◌, ◌≤◌, ◌&&◌, Bool, true, false, cond, List, ◌∷◌, length, get_or, set, Option, None, Some, refl, sym, ◌∙◌, ap, arith, inl, inr, ◌⊎◌}
+use Rattle.std.proofs.Common.{◌≡◌, ◌≢◌, ℕ, ◌<◌, ◌≤◌, Bool, true, false, List, ◌∷◌, length, get_or, set, Option, None, Some, refl, sym, ◌∙◌, ap, arith, inl, inr, ◌⊎◌}
 use Rattle.std.specs.Bool.{nat_lt}
-use Rattle.std.proofs.lemmas.Bool.{cases_lt, cases_eq, cases_Bool, false≢true, ltb-true, ltb-false}
+use Rattle.std.proofs.lemmas.Bool.{cases_lt, cases_eq, cases_Bool, false≢true, ltb-false}
 use Rattle.std.proofs.lemmas.List.{get_or-set_same, get_or-set_other}
 use Rattle.definitions.specs.Network.{NetworkData, tail_of, head_of}
 use Rattle.definitions.specs.Reach.{Reaches}
@@ -25,8 +25,9 @@ more_on f g a now b here = elim (cases_eq b a) [ inl e ↦ rw e now.at | inr ne 
 
 pub before_after : (a x b y c z : ℕ) → Before a x b y → After b y c z → Before a x c z
 before_after a x b y c z left right = elim left [
-    inl l ↦ elim right [ inl r ↦ inl (omega arith) | inr r ↦ (let e = r.0 in inl (omega arith)) ]
-  | inr l ↦ (let e = l.0 in let f = l.1 in elim right [ inl r ↦ inl (omega arith) | inr r ↦ (let g = r.0 in let h = r.1 in inr (omega arith, omega arith)) ]) ]
+  | inl l ↦ elim right [ inl r ↦ inl (omega arith) | inr r ↦ (let e = r.0 in inl (omega arith)) ]
+  | inr l ↦ (let e = l.0 in let f = l.1 in elim right [ inl r ↦ inl (omega arith) | inr r ↦ (let g = r.0 in let h = r.1 in inr (omega arith, omega arith)) ])
+]
 
 -- what stands behind the first is after it, unless it is the same item
 pub after_first : (y i z x : ℕ) → x ≢ i → Before y i z x → After y i z x

@@ -1,5 +1,5 @@
 -- The numbers of an arc that joins: they are the sums of those that joined, and within their types.
-use Rattle.std.proofs.Common.{◌≡◌, ◌≢◌, ℕ, ◌+◌, ◌-◌, ◌*◌, ◌/◌, ◌<◌, ◌≤◌, ◌^◌, ◌==◌, ◌||◌, Bool, true, false, cond, List, length, get_or, set, Option, None, Some, refl, sym, ◌∙◌, ap, arith, inl, inr}
+use Rattle.std.proofs.Common.{◌≡◌, ℕ, ◌+◌, ◌*◌, ◌/◌, ◌<◌, ◌≤◌, ◌^◌, ◌==◌, ◌||◌, Bool, true, false, cond, List, length, get_or, set, Option, refl, sym, ◌∙◌, ap, arith, inl, inr}
 use Rattle.std.specs.List.{sum_by, range_with_len}
 use Rattle.std.proofs.lemmas.Bool.{cases_eq, eq-eqb, ne_eqb}
 use Rattle.std.proofs.Math.Nat.{div-le_of_le-mul, mul-le-mul_left, mul-le-mul_right}
@@ -26,7 +26,7 @@ joined_at joins a = record { at = rw (eq-eqb a a refl) refl; others = λ b ne. r
 weight_bound : (net : NetworkData) → IsWithinLimits net → (here : ℕ → Bool) → weighed (length net.arcs) here (weight_of net) ≤ length net.arcs * 4294967296
 weight_bound net small here =
     let le : weighed (length net.arcs) here (weight_of net) ≤ sum_by (λ _. 4294967296 * 1) (range_with_len 0 (length net.arcs)) =
-        range_le (λ a. cond (here a) (weight_of net a) 0) (λ _. 4294967296 * 1) 0 (length net.arcs) (λ a low high. at_most (here a) (weight_of net a) (small.weights a (omega arith))) in
+    range_le (λ a. cond (here a) (weight_of net a) 0) (λ _. 4294967296 * 1) 0 (length net.arcs) (λ a low high. at_most (here a) (weight_of net a) (small.weights a (omega arith))) in
     let scale = sum_by-scale 4294967296 (λ _. 1) (range_with_len 0 (length net.arcs)) in
     let one = ones 0 (length net.arcs) in
     omega (arith, le, scale, one)
@@ -49,7 +49,7 @@ pub joining : (net : NetworkData) (r : ℕ) → IsWellFormed net → IsWithinLim
     leads net (λ j. get_or labels j 0) a ≡ y → is_reached marks (head_of net a) ≡ true → is_reached marks (tail_of net a) ≡ false → Within (queued q (length net.arcs + tail_of net a)) y →
     (g x : ℕ) → g ≡ get_or f (tail_of net a) 0 + weight_of net a → x ≡ get_or w (tail_of net a) 0 + weight_of net a * y →
     Joining net (λ j. get_or labels j 0) (is_reached marks) joins (queued q (length net.arcs + tail_of net a)) a y n g x
-      (λ j. get_or (set f (tail_of net a) g) j 0) (λ j. get_or (set w (tail_of net a) x) j 0)
+    (λ j. get_or (set f (tail_of net a) g) j 0) (λ j. get_or (set w (tail_of net a) x) j 0)
 joining net r sound small seen joins level last labels marks order n f w q h a y above lt boards off lead head tail within g x weight_is total_is =
     let u : ℕ → ℕ = λ j. get_or labels j 0 in
     let s : ℕ → Bool = is_reached marks in
@@ -62,14 +62,15 @@ joining net r sound small seen joins level last labels marks order n f w q h a y
     let weight_set : SetAt (λ j. get_or f j 0) (λ j. get_or (set f i g) j 0) i (get_or f i 0 + weight_of net a) = rw (← weight_is) (set_list f i g 0 (omega arith)) in
     let total_set : SetAt (λ j. get_or w j 0) (λ j. get_or (set w i x) j 0) i (get_or w i 0 + weight_of net a * y) = rw (← total_is) (set_list w i x 0 (omega arith)) in
     let sums = sums_join net u s joins these (λ j. get_or f j 0) (λ j. get_or w j 0) h.sums a y lt boards off lead now
-        (λ j. get_or (set f i g) j 0) (λ j. get_or (set w i x) j 0) weight_set total_set in
+    (λ j. get_or (set f i g) j 0) (λ j. get_or (set w i x) j 0) weight_set total_set in
     let weight : g ≡ weighed (length net.arcs) (carries net these i) (weight_of net) = weight_is ∙ sym weight_set.at ∙ sums.weights i tail_lt tail in
     let total : x ≡ totalled (length net.arcs) (carries net these i) (weight_of net) (leads net u) = total_is ∙ sym total_set.at ∙ sums.totals i tail_lt tail in
     let under : totalled (length net.arcs) (carries net these i) (weight_of net) (leads net u) ≤ (y + 1) * weighed (length net.arcs) (carries net these i) (weight_of net) =
-        totalled_le (length net.arcs) (carries net these i) (weight_of net) (leads net u) (y + 1)
-        (λ b blt c. let cr = carried net these i b c in elim (cases_eq b a) [
-            inl e ↦ (let k : leads net u b ≡ leads net u a = ap (leads net u) e in omega arith)
-          | inr ne ↦ (let l = h.partway.low b blt cr.boards (sym (now.others b ne) ∙ cr.here) (ap s cr.tail ∙ tail) in omega arith) ]) in
+    totalled_le (length net.arcs) (carries net these i) (weight_of net) (leads net u) (y + 1)
+    (λ b blt c. let cr = carried net these i b c in elim (cases_eq b a) [
+      | inl e ↦ (let k : leads net u b ≡ leads net u a = ap (leads net u) e in omega arith)
+      | inr ne ↦ (let l = h.partway.low b blt cr.boards (sym (now.others b ne) ∙ cr.here) (ap s cr.tail ∙ tail) in omega arith)
+    ]) in
     let times : (y + 1) * g ≡ (y + 1) * weighed (length net.arcs) (carries net these i) (weight_of net) = ap (λ z. (y + 1) * z) weight in
     let all : x ≤ (y + 1) * g = omega (arith, total, under, times) in
     let bounded = weight_bound net small (carries net these i) in

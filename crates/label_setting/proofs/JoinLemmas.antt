@@ -1,12 +1,12 @@
 -- A boarding arc is taken from the queue, or joins at once: what held partway holds with it.
-use Rattle.std.proofs.Common.{◌≡◌, ◌≢◌, ℕ, ◌+◌, ◌*◌, ◌/◌, ◌<◌, ◌≤◌, Bool, true, false, length, Option, None, Some, refl, sym, ◌∙◌, ap, arith, inl, inr, ◌⊎◌}
+use Rattle.std.proofs.Common.{◌≡◌, ◌≢◌, ℕ, ◌+◌, ◌/◌, ◌<◌, ◌≤◌, Bool, true, false, length, Option, None, Some, refl, sym, ◌∙◌, ap, arith, inl, inr}
 use Rattle.std.proofs.lemmas.Bool.{cases_eq, false≢true}
 use Rattle.definitions.specs.Network.{NetworkData, IsWellFormed, tail_of, head_of, weight_of, is_boarding}
 use Rattle.label_setting.specs.Queue.{lesser_of}
 use Rattle.label_setting.specs.Partway.{weighed, totalled, leads, carries, Within, IsTop, IsLeftOut, Before, Partway}
 use Rattle.label_setting.proofs.TopLemmas.{top_kept, top_join}
-use Rattle.label_setting.proofs.ChangeLemmas.{SetAt, apart, more_on, before_after, after_first, after_level, before_level, after_ge, same_some, within_by, reaches_by}
-use Rattle.label_setting.proofs.SeeLemmas.{IsSeen, heads_with, closed_with, opened_with, not_joined, others_lowered}
+use Rattle.label_setting.proofs.ChangeLemmas.{SetAt, apart, more_on, before_after, after_first, after_level, after_ge, same_some, reaches_by}
+use Rattle.label_setting.proofs.SeeLemmas.{IsSeen, heads_with, closed_with, opened_with, others_lowered}
 
 -- its tail is settled
 pub skip : (net : NetworkData) (r : ℕ) (u : ℕ → ℕ) (s seen joins : ℕ → Bool) (q p : ℕ → Option ℕ) (level last : ℕ) → Partway net r u s seen joins q level last →
@@ -24,17 +24,20 @@ skip net r u s seen joins q p level last h a y lt there first tail put =
       opened = λ j jlt opened. rw (node_same j) (h.opened j jlt opened);
       below = λ j jlt is. before_after (u j) (length net.arcs + j) level last y a (h.below j jlt is) (h.later a y there);
       later = λ x z is. elim (cases_eq x a) [
-          inl e ↦ absurd (let g : p x ≡ None = ap p e ∙ put.at in cc)
-        | inr ne ↦ after_first y a z x ne (first x z (sym (put.others x ne) ∙ is)) ];
+        | inl e ↦ absurd (let g : p x ≡ None = ap p e ∙ put.at in cc)
+        | inr ne ↦ after_first y a z x ne (first x z (sym (put.others x ne) ∙ is))
+      ];
       joined = h.joined;
       others = λ b blt boards here opened off.
           let ne : b ≢ a = λ e. apart s (tail_of net a) (tail_of net b) tail opened (ap (tail_of net) (sym e)) in
           elim (h.others b blt boards here opened off) [
-            inl queued ↦ inl (put.others b ne ∙ queued)
-          | inr past ↦ inr (past.0, node_same (tail_of net b) ∙ past.1, past.2) ];
+            | inl queued ↦ inl (put.others b ne ∙ queued)
+            | inr past ↦ inr (past.0, node_same (tail_of net b) ∙ past.1, past.2)
+          ];
       arcs = λ b z blt is. elim (cases_eq b a) [
-          inl e ↦ absurd (let g : p b ≡ None = ap p e ∙ put.at in cc)
-        | inr ne ↦ h.arcs b z blt (sym (put.others b ne) ∙ is) ];
+        | inl e ↦ absurd (let g : p b ≡ None = ap p e ∙ put.at in cc)
+        | inr ne ↦ h.arcs b z blt (sym (put.others b ne) ∙ is)
+      ];
       nodes = λ j z jlt is. h.nodes j z jlt (sym (node_same j) ∙ is);
       low = λ b blt boards here opened. let l = h.low b blt boards here opened in omega arith;
     }
@@ -59,8 +62,9 @@ join_top : (net : NetworkData) (r : ℕ) (u : ℕ → ℕ) (s seen joins these :
 join_top net r u s seen joins these q level last a y f w sound h above j =
     top_join net (leads net u) seen joins these (tail_of net a) (q (length net.arcs + tail_of net a)) a y f w j.there refl j.boards j.leads_to j.within
     (λ b blt tb boards here. elim (cases_eq b a) [
-        inl e ↦ (let l = j.leads_to in let k : leads net u b ≡ leads net u a = ap (leads net u) e in omega arith)
-      | inr ne ↦ (let l = h.low b blt boards (sym (j.now.others b ne) ∙ here) (ap s tb ∙ j.tail) in omega arith) ])
+      | inl e ↦ (let l = j.leads_to in let k : leads net u b ≡ leads net u a = ap (leads net u) e in omega arith)
+      | inr ne ↦ (let l = h.low b blt boards (sym (j.now.others b ne) ∙ here) (ap s tb ∙ j.tail) in omega arith)
+    ])
     (λ b blt boards ne. j.now.others b ne)
     (λ b blt boards here. more_on joins these a j.now b here)
     j.weight j.total j.positive (h.opened (tail_of net a) (sound.tails a j.there) j.tail)
@@ -107,32 +111,39 @@ join net r u s seen joins these q d p level last a y f w sound h there first cut
       reaches = h.reaches;
       closed = h.closed;
       opened = λ k klt opened. elim (cases_eq k (tail_of net a)) [
-          inl e ↦ rw (e, put_q) top.0
-        | inr ne ↦ rw (node_other k ne) (join_elsewhere net u seen joins these a k (q (length net.arcs + k)) j.now ne (h.opened k klt opened)) ];
+        | inl e ↦ rw (e, put_q) top.0
+        | inr ne ↦ rw (node_other k ne) (join_elsewhere net u seen joins these a k (q (length net.arcs + k)) j.now ne (h.opened k klt opened))
+      ];
       below = λ k klt is. before_after (u k) (length net.arcs + k) level last y a (h.below k klt is) (h.later a y there);
       later = λ x z is. elim (cases_eq x node) [
-          inl e ↦ (
+        | inl e ↦ (
             let g : z ≡ lesser_of (q node) ((net.k + w) / f) = same_some (p node) z _ (sym (ap p e) ∙ is) put_q in
             rw (e, g) (after_ge y a (lesser_of (q node) ((net.k + w) / f)) node top.1 (omega arith)))
         | inr nn ↦ elim (cases_eq x a) [
-            inl e ↦ absurd (let g : p x ≡ None = ap p e ∙ gone in cc)
-          | inr ne ↦ after_first y a z x ne (first x z (sym (put.others x nn ∙ cut.others x ne) ∙ is)) ] ];
+          | inl e ↦ absurd (let g : p x ≡ None = ap p e ∙ gone in cc)
+          | inr ne ↦ after_first y a z x ne (first x z (sym (put.others x nn ∙ cut.others x ne) ∙ is))
+        ]
+      ];
       joined = λ b on. elim (cases_eq b a) [ inl e ↦ rw e arc.1 | inr ne ↦ h.joined b (sym (j.now.others b ne) ∙ on) ];
       others = λ b blt boards here opened off.
           let was = off_before joins these a b j.now off in
           let d_left : IsLeftOut net u d b = elim (h.others b blt boards here opened was.1) [
-              inl queued ↦ inl (cut.others b was.0 ∙ queued)
-            | inr past ↦ inr (past.0, cut.others (length net.arcs + tail_of net b) (λ e. omega arith) ∙ past.1, past.2) ] in
+            | inl queued ↦ inl (cut.others b was.0 ∙ queued)
+            | inr past ↦ inr (past.0, cut.others (length net.arcs + tail_of net b) (λ e. omega arith) ∙ past.1, past.2)
+          ] in
           others_lowered net u d p (tail_of net a) ((net.k + w) / f) b put blt d_left;
       arcs = λ b z blt is. elim (cases_eq b a) [
-          inl e ↦ absurd (let g : p b ≡ None = ap p e ∙ gone in cc)
-        | inr ne ↦ (let old = h.arcs b z blt (sym (arc_other b blt ne) ∙ is) in (old.0, old.1, j.now.others b ne ∙ old.2, old.3)) ];
+        | inl e ↦ absurd (let g : p b ≡ None = ap p e ∙ gone in cc)
+        | inr ne ↦ (let old = h.arcs b z blt (sym (arc_other b blt ne) ∙ is) in (old.0, old.1, j.now.others b ne ∙ old.2, old.3))
+      ];
       nodes = λ k z klt is. elim (cases_eq k (tail_of net a)) [
-          inl e ↦ rw e (j.tail, reaches_by net r a lt (h.reaches (head_of net a) (sound.heads a lt) (h.heads a arc.1).1))
-        | inr ne ↦ h.nodes k z klt (sym (node_other k ne) ∙ is) ];
+        | inl e ↦ rw e (j.tail, reaches_by net r a lt (h.reaches (head_of net a) (sound.heads a lt) (h.heads a arc.1).1))
+        | inr ne ↦ h.nodes k z klt (sym (node_other k ne) ∙ is)
+      ];
       low = λ b blt boards here opened. elim (cases_eq b a) [
-          inl e ↦ (let l = j.leads_to in let k : leads net u b ≡ leads net u a = ap (leads net u) e in omega arith)
-        | inr ne ↦ (let l = h.low b blt boards (sym (j.now.others b ne) ∙ here) opened in omega arith) ];
+        | inl e ↦ (let l = j.leads_to in let k : leads net u b ≡ leads net u a = ap (leads net u) e in omega arith)
+        | inr ne ↦ (let l = h.low b blt boards (sym (j.now.others b ne) ∙ here) opened in omega arith)
+      ];
     }
 
 -- an arc that is seen and leads one tick past the last label joins at once
@@ -154,15 +165,17 @@ join_now net r u s seen joins saw these q p level last a f w sound h see put j =
       reaches = h.reaches;
       closed = closed_with net r u s seen joins saw q level last a sound h see;
       opened = λ k klt opened. elim (cases_eq k (tail_of net a)) [
-          inl e ↦ rw (e, put.at) (opened_with net u s seen these saw level a (Some (lesser_of (q node) ((net.k + w) / f))) see (tail_of net a) (λ tail. j.boards) top.0)
+        | inl e ↦ rw (e, put.at) (opened_with net u s seen these saw level a (Some (lesser_of (q node) ((net.k + w) / f))) see (tail_of net a) (λ tail. j.boards) top.0)
         | inr ne ↦ rw (node_other k ne) (opened_with net u s seen these saw level a (q (length net.arcs + k)) see k (λ tail. j.boards)
-            (join_elsewhere net u seen joins these a k (q (length net.arcs + k)) j.now ne (h.opened k klt opened))) ];
+            (join_elsewhere net u seen joins these a k (q (length net.arcs + k)) j.now ne (h.opened k klt opened)))
+      ];
       below = h.below;
       later = λ x z is. elim (cases_eq x node) [
-          inl e ↦ (
+        | inl e ↦ (
             let g : z ≡ lesser_of (q node) ((net.k + w) / f) = same_some (p node) z _ (sym (ap p e) ∙ is) put.at in
             let m = top.1 in inl (omega arith))
-        | inr ne ↦ h.later x z (sym (put.others x ne) ∙ is) ];
+        | inr ne ↦ h.later x z (sym (put.others x ne) ∙ is)
+      ];
       joined = λ b on. elim (cases_eq b a) [ inl e ↦ rw e see.now.at | inr ne ↦ more_on seen saw a see.now b (h.joined b (sym (j.now.others b ne) ∙ on)) ];
       others = λ b blt boards here opened off.
           let was = off_before joins these a b j.now off in
@@ -172,9 +185,11 @@ join_now net r u s seen joins saw these q p level last a f w sound h see put j =
           let ne : b ≢ a = apart seen b a old.1 see.unseen in
           (old.0, more_on seen saw a see.now b old.1, j.now.others b ne ∙ old.2, old.3);
       nodes = λ k z klt is. elim (cases_eq k (tail_of net a)) [
-          inl e ↦ rw e (j.tail, reaches_by net r a lt (h.reaches (head_of net a) (sound.heads a lt) see.head))
-        | inr ne ↦ h.nodes k z klt (sym (node_other k ne) ∙ is) ];
+        | inl e ↦ rw e (j.tail, reaches_by net r a lt (h.reaches (head_of net a) (sound.heads a lt) see.head))
+        | inr ne ↦ h.nodes k z klt (sym (node_other k ne) ∙ is)
+      ];
       low = λ b blt boards here opened. elim (cases_eq b a) [
-          inl e ↦ (let l = j.leads_to in let k : leads net u b ≡ leads net u a = ap (leads net u) e in omega arith)
-        | inr ne ↦ h.low b blt boards (sym (j.now.others b ne) ∙ here) opened ];
+        | inl e ↦ (let l = j.leads_to in let k : leads net u b ≡ leads net u a = ap (leads net u) e in omega arith)
+        | inr ne ↦ h.low b blt boards (sym (j.now.others b ne) ∙ here) opened
+      ];
     }

@@ -13,7 +13,10 @@ pub mod FitLemmas
 pub mod MoveLemmas
 pub mod SpreadLemmas
 pub mod StepLemmas
+pub mod LoopLemmas
 pub mod HeapLemmas
-pub mod QueueLemmas
+pub mod NumberLemmas
+pub mod PutLemmas
+pub mod FirstLemmas
 pub mod TakeLemmas
 pub mod WholeLemmas

@@ -1,21 +1,20 @@
 -- The steps over lists: what is taken is settled, passed or joined, and the arcs into a node are looked at.
-use Rattle.std.proofs.Common.{◌≡◌, ◌≢◌, ℕ, ◌+◌, ◌-◌, ◌*◌, ◌/◌, ◌<◌, ◌≤◌, ◌^◌, ◌==◌, Bool, true, false, cond, List, [], ◌∷◌, ◌++◌, length, get_or, set, Option, None, Some, refl, sym, ◌∙◌, ap, arith, inl, inr, ◌⊎◌, subst}
-use Rattle.std.proofs.lemmas.Bool.{cases_lt, cases_eq, cases_Bool, false≢true, eq-eqb, ne_eqb}
+use Rattle.std.proofs.Common.{◌≡◌, ◌≢◌, ℕ, ◌+◌, ◌*◌, ◌/◌, ◌<◌, ◌≤◌, Bool, true, false, List, [], ◌∷◌, ◌++◌, length, get_or, set, Option, None, Some, sym, ◌∙◌, ap, arith}
 use Rattle.std.proofs.lemmas.List.{length-set}
-use Rattle.definitions.specs.Network.{NetworkData, IsWellFormed, IsWithinLimits, tail_of, head_of, cost_of, weight_of, is_boarding}
+use Rattle.definitions.specs.Network.{NetworkData, IsWellFormed, IsWithinLimits, tail_of, head_of, cost_of, weight_of}
 use Rattle.definitions.specs.Reach.{is_reached}
 use Rattle.label_setting.specs.declared.queue.Taken.{Taken}
 use Rattle.label_setting.specs.Queue.{queued, lesser_of, IsFirst}
-use Rattle.label_setting.specs.Partway.{leads, Before, IsLeftOut, Within, Partway, Sums, Room, Ordered, seen_to, all_seen, stride, left}
-use Rattle.label_setting.specs.Settling.{Stands, lowered}
-use Rattle.label_setting.proofs.ChangeLemmas.{SetAt, set_list, apart, same_some, after_level, before_level, within_by}
+use Rattle.label_setting.specs.Partway.{Before, seen_to, all_seen, stride, left}
+use Rattle.label_setting.specs.Settling.{Stands}
+use Rattle.label_setting.specs.Changes.{lowered}
+use Rattle.label_setting.proofs.ChangeLemmas.{SetAt, set_list, apart, after_level, before_level, within_by}
 use Rattle.label_setting.proofs.SettleLemmas.{settle}
-use Rattle.label_setting.proofs.SeeLemmas.{IsSeen, pass, enqueue, bound, not_joined}
-use Rattle.label_setting.proofs.JoinLemmas.{IsJoining, skip, join, join_now}
-use Rattle.label_setting.proofs.TallyLemmas.{sums_kept, sums_join, room_put, room_cut, room_settle, lesser_le}
+use Rattle.label_setting.proofs.JoinLemmas.{skip, join}
+use Rattle.label_setting.proofs.TallyLemmas.{sums_kept, room_put, room_cut, room_settle, lesser_le}
 use Rattle.label_setting.proofs.OrderLemmas.{ordered_settle, left_join}
 use Rattle.label_setting.proofs.SeenLemmas.{seen_as, seen_first}
-use Rattle.label_setting.proofs.FitLemmas.{Joining, joining, join_at}
+use Rattle.label_setting.proofs.FitLemmas.{joining, join_at}
 
 -- ---- what is first in the queue is taken
 
@@ -62,25 +61,27 @@ skip_move net r joins level last labels marks order n f w q h t first lt tail =
     let s : ℕ → Bool = is_reached marks in
     let p : ℕ → Option ℕ = queued (set q t.item None) in
     let cut : SetAt (queued q) p t.item None = set_list q t.item None None first.inside in
-    let arc = h.partway.arcs t.item t.number lt first.held in
-    (record {
-      partway = skip net r u s (all_seen net s) joins (queued q) p level last h.partway t.item t.number lt first.held first.first tail cut;
-      sums = h.sums;
-      room = room_cut net u s (queued q) n h.room p t.item cut;
-      ordered = h.ordered;
-      labels_long = h.labels_long;
-      marks_long = h.marks_long;
-      weights_long = h.weights_long;
-      totals_long = h.totals_long;
-      queue_long = length-set q t.item None ∙ h.queue_long;
-    }, left_join net s (queued q) p t.item t.number lt (h.partway.heads t.item arc.1).1 first.held cut.at (λ b blt ne. cut.others b ne))
+    let arc = h.partway.arcs t.item t.number lt first.held in (
+      record {
+        partway = skip net r u s (all_seen net s) joins (queued q) p level last h.partway t.item t.number lt first.held first.first tail cut;
+        sums = h.sums;
+        room = room_cut net u s (queued q) n h.room p t.item cut;
+        ordered = h.ordered;
+        labels_long = h.labels_long;
+        marks_long = h.marks_long;
+        weights_long = h.weights_long;
+        totals_long = h.totals_long;
+        queue_long = length-set q t.item None ∙ h.queue_long;
+      },
+      left_join net s (queued q) p t.item t.number lt (h.partway.heads t.item arc.1).1 first.held cut.at (λ b blt ne. cut.others b ne),
+    )
 
 -- an arc whose tail is open: it joins
 pub join_move : (net : NetworkData) (r : ℕ) → IsWellFormed net → IsWithinLimits net → (joins : ℕ → Bool) (level last : ℕ) (labels : List ℕ) (marks : List Bool) (order : List ℕ) (n : ℕ) (f w : List ℕ) (q : List (Option ℕ)) →
     Stands net r (all_seen net (is_reached marks)) joins level last labels marks order n f w q → (t : Taken) → IsFirst q t → t.item < length net.arcs → is_reached marks (tail_of net t.item) ≡ false →
     (g x : ℕ) → g ≡ get_or f (tail_of net t.item) 0 + weight_of net t.item → x ≡ get_or w (tail_of net t.item) 0 + weight_of net t.item * t.number →
     Stands net r (all_seen net (is_reached marks)) (join_at joins t.item) t.number t.item labels marks order n (set f (tail_of net t.item) g) (set w (tail_of net t.item) x)
-      (lowered (set q t.item None) (length net.arcs + tail_of net t.item) ((net.k + x) / g))
+    (lowered (set q t.item None) (length net.arcs + tail_of net t.item) ((net.k + x) / g))
     × (left net (is_reached marks) (queued (lowered (set q t.item None) (length net.arcs + tail_of net t.item) ((net.k + x) / g))) < left net (is_reached marks) (queued q))
 join_move net r sound small joins level last labels marks order n f w q h t first lt tail g x weight_is total_is =
     let u : ℕ → ℕ = λ j. get_or labels j 0 in
@@ -101,17 +102,19 @@ join_move net r sound small joins level last labels marks order n f w q h t firs
     let gone : queued p a ≡ None = put.others a (λ e. omega arith) ∙ cut.at in
     let others : (b : ℕ) → b < length net.arcs → b ≢ a → queued p b ≡ queued q b = λ b blt ne. put.others b (λ e. omega arith) ∙ cut.others b ne in
     let j = joining net r sound small (all_seen net s) joins level last labels marks order n f w q h a y (after_level level last y a (h.partway.later a y first.held)) lt arc.0 arc.2 (sym arc.3) (h.partway.heads a arc.1).1 tail
-        (within_by (queued q node) y (λ z is. before_level y a z node (first.first node z is))) g x weight_is total_is in
+    (within_by (queued q node) y (λ z is. before_level y a z node (first.first node z is))) g x weight_is total_is in
     let wait = j.label in
-    let bounded : z ≤ n * stride = let l = lesser_le (queued d node) ((net.k + x) / g) in omega arith in
-    (record {
-      partway = join net r u s (all_seen net s) joins (join_at joins a) (queued q) (queued d) (queued p) level last a y g x sound h.partway first.held first.first cut put j.arc;
-      sums = j.sums;
-      room = room_put net u s (queued d) n (room_cut net u s (queued q) n h.room (queued d) a cut) (queued p) node z put bounded;
-      ordered = h.ordered;
-      labels_long = h.labels_long;
-      marks_long = h.marks_long;
-      weights_long = length-set f i g ∙ h.weights_long;
-      totals_long = length-set w i x ∙ h.totals_long;
-      queue_long = length-set d node (Some z) ∙ dl ∙ h.queue_long;
-    }, left_join net s (queued q) (queued p) a y lt (h.partway.heads a arc.1).1 first.held gone others)
+    let bounded : z ≤ n * stride = let l = lesser_le (queued d node) ((net.k + x) / g) in omega arith in (
+      record {
+        partway = join net r u s (all_seen net s) joins (join_at joins a) (queued q) (queued d) (queued p) level last a y g x sound h.partway first.held first.first cut put j.arc;
+        sums = j.sums;
+        room = room_put net u s (queued d) n (room_cut net u s (queued q) n h.room (queued d) a cut) (queued p) node z put bounded;
+        ordered = h.ordered;
+        labels_long = h.labels_long;
+        marks_long = h.marks_long;
+        weights_long = length-set f i g ∙ h.weights_long;
+        totals_long = length-set w i x ∙ h.totals_long;
+        queue_long = length-set d node (Some z) ∙ dl ∙ h.queue_long;
+      },
+      left_join net s (queued q) (queued p) a y lt (h.partway.heads a arc.1).1 first.held gone others,
+    )

@@ -24,19 +24,22 @@ ordered_settle net r u s seen joins q level last h o ord i y lt there v m label 
     let long : length (o ++ i ∷ []) ≡ length o + 1 = length-append o (i ∷ []) in
     record {
       inside = λ k short. elim (cases_lt k (length o)) [
-          inl low ↦ rw (before k low) ((ord.inside k low).0, mark.others (get_or o k 0) (ne k low) ∙ (ord.inside k low).1)
-        | inr high ↦ (let e : k ≡ length o = omega arith in rw (e, now) (lt, mark.at)) ];
+        | inl low ↦ rw (before k low) ((ord.inside k low).0, mark.others (get_or o k 0) (ne k low) ∙ (ord.inside k low).1)
+        | inr high ↦ (let e : k ≡ length o = omega arith in rw (e, now) (lt, mark.at))
+      ];
       all = λ j jlt is. elim (cases_eq j i) [
-          inl e ↦ (length o, omega arith, now ∙ sym e)
-        | inr nj ↦ (let k = ord.all j jlt (sym (mark.others j nj) ∙ is) in let l = k.1 in (k.0, omega arith, before k.0 k.1 ∙ k.2)) ];
+        | inl e ↦ (length o, omega arith, now ∙ sym e)
+        | inr nj ↦ (let k = ord.all j jlt (sym (mark.others j nj) ∙ is) in let l = k.1 in (k.0, omega arith, before k.0 k.1 ∙ k.2))
+      ];
       sorted = λ j k less short. elim (cases_lt k (length o)) [
-          inl low ↦ (let jlow : j < length o = omega arith in
+        | inl low ↦ (let jlow : j < length o = omega arith in
             rw (before k low, before j jlow, label.others (get_or o j 0) (ne j jlow), label.others (get_or o k 0) (ne k low)) (ord.sorted j k less low))
         | inr high ↦ (let e : k ≡ length o = omega arith in let jlow : j < length o = omega arith in
             rw (e, now, before j jlow, label.others (get_or o j 0) (ne j jlow), label.at)
             (settled_before net (u (get_or o j 0)) y (get_or o j 0) i (length net.arcs) (ne j jlow)
-              (before_after (u (get_or o j 0)) (length net.arcs + get_or o j 0) level last y (length net.arcs + i)
-                (h.below (get_or o j 0) (ord.inside j jlow).0 (ord.inside j jlow).1) (h.later (length net.arcs + i) y there)))) ];
+            (before_after (u (get_or o j 0)) (length net.arcs + get_or o j 0) level last y (length net.arcs + i)
+            (h.below (get_or o j 0) (ord.inside j jlow).0 (ord.inside j jlow).1) (h.later (length net.arcs + i) y there))))
+      ];
     }
 
 -- ---- what is left
@@ -45,8 +48,8 @@ ordered_settle net r u s seen joins q level last h o ord i y lt there v m label 
 pub range_less : (f g : ℕ → ℕ) (n a : ℕ) → a < n → f a < g a → ((i : ℕ) → i < n → f i ≤ g i) → sum_by f (range_with_len 0 n) < sum_by g (range_with_len 0 n)
 range_less f g n a lt less le =
     let all : sum_by (λ i. f i + cond (a == i) 1 0) (range_with_len 0 n) ≤ sum_by g (range_with_len 0 n) =
-        range_le (λ i. f i + cond (a == i) 1 0) g 0 n (λ i low high. at_most (a == i) (f i) (g i) (le i (omega arith))
-          (λ at. let e : a ≡ i = eqb-true a i at in let P : ℕ → Type 0 = λ k. f k < g k in subst P e less)) in
+    range_le (λ i. f i + cond (a == i) 1 0) g 0 n (λ i low high. at_most (a == i) (f i) (g i) (le i (omega arith))
+    (λ at. let e : a ≡ i = eqb-true a i at in let P : ℕ → Type 0 = λ k. f k < g k in subst P e less)) in
     let split = sum_by-add f (λ i. cond (a == i) 1 0) (range_with_len 0 n) in
     let one = one_term (λ _. 1) a 0 n (omega arith) (omega arith) in
     omega arith
@@ -63,22 +66,24 @@ pub left_settle : (net : NetworkData) (s m : ℕ → Bool) (q p : ℕ → Option
     ((a : ℕ) → a < length net.arcs → head_of net a ≢ i → p a ≡ q a) → left net m p < left net s q
 left_settle net s m q p i lt opened mark same =
     let nodes : sum_by (λ j. cond (m j) 0 1) (range_with_len 0 net.nodes) < sum_by (λ j. cond (s j) 0 1) (range_with_len 0 net.nodes) =
-        range_less (λ j. cond (m j) 0 1) (λ j. cond (s j) 0 1) net.nodes i lt (rw (mark.at, opened) (omega arith))
-        (λ j jlt. elim (cases_eq j i) [ inl e ↦ rw (e, mark.at) (omega arith) | inr ne ↦ rw (mark.others j ne) (omega arith) ]) in
+    range_less (λ j. cond (m j) 0 1) (λ j. cond (s j) 0 1) net.nodes i lt (rw (mark.at, opened) (omega arith))
+    (λ j jlt. elim (cases_eq j i) [ inl e ↦ rw (e, mark.at) (omega arith) | inr ne ↦ rw (mark.others j ne) (omega arith) ]) in
     let arcs : sum_by (λ a. cond (m (head_of net a) && not (is_some (p a))) 0 1) (range_with_len 0 (length net.arcs)) ≤ sum_by (λ a. cond (s (head_of net a) && not (is_some (q a))) 0 1) (range_with_len 0 (length net.arcs)) =
-        range_le (λ a. cond (m (head_of net a) && not (is_some (p a))) 0 1) (λ a. cond (s (head_of net a) && not (is_some (q a))) 0 1) 0 (length net.arcs)
-        (λ a low high. elim (cases_eq (head_of net a) i) [
-            inl e ↦ (let none : s (head_of net a) ≡ false = ap s e ∙ opened in rw none (zero_or_one (m (head_of net a) && not (is_some (p a)))))
-          | inr ne ↦ rw (mark.others (head_of net a) ne, same a (omega arith) ne) (omega arith) ]) in
+    range_le (λ a. cond (m (head_of net a) && not (is_some (p a))) 0 1) (λ a. cond (s (head_of net a) && not (is_some (q a))) 0 1) 0 (length net.arcs)
+    (λ a low high. elim (cases_eq (head_of net a) i) [
+      | inl e ↦ (let none : s (head_of net a) ≡ false = ap s e ∙ opened in rw none (zero_or_one (m (head_of net a) && not (is_some (p a)))))
+      | inr ne ↦ rw (mark.others (head_of net a) ne, same a (omega arith) ne) (omega arith)
+    ]) in
     omega arith
 
 pub left_join : (net : NetworkData) (s : ℕ → Bool) (q p : ℕ → Option ℕ) (a y : ℕ) → a < length net.arcs → s (head_of net a) ≡ true → q a ≡ Some y → p a ≡ None →
     ((b : ℕ) → b < length net.arcs → b ≢ a → p b ≡ q b) → left net s p < left net s q
 left_join net s q p a y lt head there gone same =
     let arcs : sum_by (λ b. cond (s (head_of net b) && not (is_some (p b))) 0 1) (range_with_len 0 (length net.arcs)) < sum_by (λ b. cond (s (head_of net b) && not (is_some (q b))) 0 1) (range_with_len 0 (length net.arcs)) =
-        range_less (λ b. cond (s (head_of net b) && not (is_some (p b))) 0 1) (λ b. cond (s (head_of net b) && not (is_some (q b))) 0 1) (length net.arcs) a lt
-        (rw (head, there, gone) (omega arith))
-        (λ b blt. elim (cases_eq b a) [
-            inl e ↦ rw (e, head, there, gone) (omega arith)
-          | inr ne ↦ rw (same b blt ne) (omega arith) ]) in
+    range_less (λ b. cond (s (head_of net b) && not (is_some (p b))) 0 1) (λ b. cond (s (head_of net b) && not (is_some (q b))) 0 1) (length net.arcs) a lt
+    (rw (head, there, gone) (omega arith))
+    (λ b blt. elim (cases_eq b a) [
+      | inl e ↦ rw (e, head, there, gone) (omega arith)
+      | inr ne ↦ rw (same b blt ne) (omega arith)
+    ]) in
     omega arith

@@ -1,14 +1,14 @@
 -- The steps over lists: an arc into a node that was just settled is looked at.
-use Rattle.std.proofs.Common.{◌≡◌, ◌≢◌, ℕ, ◌+◌, ◌*◌, ◌/◌, ◌<◌, ◌≤◌, Bool, true, false, List, length, get_or, set, Option, None, Some, refl, sym, ◌∙◌, ap, arith, inl, inr, ◌⊎◌}
+use Rattle.std.proofs.Common.{◌≡◌, ℕ, ◌+◌, ◌*◌, ◌/◌, ◌<◌, ◌≤◌, Bool, true, false, List, length, get_or, set, Option, None, Some, refl, ◌∙◌, ap, arith, inr}
 use Rattle.std.proofs.lemmas.Bool.{false≢true}
 use Rattle.std.proofs.lemmas.List.{length-set}
-use Rattle.std.specs.Bool.{nat_le}
 use Rattle.std.proofs.lemmas.Bool.{leb-true, leb-false}
 use Rattle.definitions.specs.Network.{NetworkData, IsWellFormed, IsWithinLimits, tail_of, head_of, cost_of, weight_of, is_boarding}
 use Rattle.definitions.specs.Reach.{is_reached}
 use Rattle.label_setting.specs.Queue.{queued, lesser_of}
-use Rattle.label_setting.specs.Partway.{leads, Within, IsLeftOut, Partway, seen_to, stride}
-use Rattle.label_setting.specs.Settling.{Stands, is_by, lowered}
+use Rattle.label_setting.specs.Partway.{leads, Within, seen_to}
+use Rattle.label_setting.specs.Settling.{Stands}
+use Rattle.label_setting.specs.Changes.{is_by, lowered}
 use Rattle.label_setting.proofs.ChangeLemmas.{SetAt, set_list}
 use Rattle.label_setting.proofs.SeeLemmas.{IsSeen, pass, enqueue, bound, not_joined}
 use Rattle.label_setting.proofs.JoinLemmas.{join_now}
@@ -27,12 +27,12 @@ pub record IsInto (net : NetworkData) (labels : List ℕ) (marks : List Bool) (i
 pub see : (net : NetworkData) (labels : List ℕ) (marks : List Bool) (i level k : ℕ) → IsInto net labels marks i level k →
     IsSeen net (λ j. get_or labels j 0) (is_reached marks) (seen_to net (is_reached marks) i k) (seen_to net (is_reached marks) i (k + 1)) level k
 see net labels marks i level k into = record {
-    there = into.arc;
-    head = ap (is_reached marks) into.head ∙ into.marked;
-    label = ap (λ j. get_or labels j 0) into.head ∙ into.labelled;
-    now = seen_now net (is_reached marks) i k into.arc into.head into.marked;
-    unseen = seen_not net (is_reached marks) i k into.head;
-  }
+  there = into.arc;
+  head = ap (is_reached marks) into.head ∙ into.marked;
+  label = ap (λ j. get_or labels j 0) into.head ∙ into.labelled;
+  now = seen_now net (is_reached marks) i k into.arc into.head into.marked;
+  unseen = seen_not net (is_reached marks) i k into.head;
+}
 
 pub lead : (net : NetworkData) (labels : List ℕ) (marks : List Bool) (i level k : ℕ) → IsInto net labels marks i level k → leads net (λ j. get_or labels j 0) k ≡ level + cost_of net k
 lead net labels marks i level k into = ap (λ x. x + cost_of net k) (ap (λ j. get_or labels j 0) into.head ∙ into.labelled)
@@ -52,22 +52,22 @@ pub pass_move : (net : NetworkData) (r : ℕ) → IsWellFormed net → (joins : 
     (is_reached marks (tail_of net k) ≡ false → (is_boarding net k ≡ true) × (is_by (queued q (length net.arcs + tail_of net k)) (level + cost_of net k) ≡ true)) →
     Stands net r (seen_to net (is_reached marks) i (k + 1)) joins level last labels marks order n f w q
 pass_move net r sound joins level last labels marks order n f w q i k h into aside = record {
-    partway = pass net r (λ j. get_or labels j 0) (is_reached marks) (seen_to net (is_reached marks) i k) joins (seen_to net (is_reached marks) i (k + 1)) (queued q) level last k sound h.partway
-        (see net labels marks i level k into)
-        (λ opened. let a = aside opened in
-          let b = by_some (queued q (length net.arcs + tail_of net k)) (level + cost_of net k) a.1 in
-          let e = lead net labels marks i level k into in
-          let le = b.2 in
-          (a.0, inr (b.0, b.1, omega arith)));
-    sums = h.sums;
-    room = h.room;
-    ordered = h.ordered;
-    labels_long = h.labels_long;
-    marks_long = h.marks_long;
-    weights_long = h.weights_long;
-    totals_long = h.totals_long;
-    queue_long = h.queue_long;
-  }
+  partway = pass net r (λ j. get_or labels j 0) (is_reached marks) (seen_to net (is_reached marks) i k) joins (seen_to net (is_reached marks) i (k + 1)) (queued q) level last k sound h.partway
+      (see net labels marks i level k into)
+      (λ opened. let a = aside opened in
+      let b = by_some (queued q (length net.arcs + tail_of net k)) (level + cost_of net k) a.1 in
+      let e = lead net labels marks i level k into in
+      let le = b.2 in
+      (a.0, inr (b.0, b.1, omega arith)));
+  sums = h.sums;
+  room = h.room;
+  ordered = h.ordered;
+  labels_long = h.labels_long;
+  marks_long = h.marks_long;
+  weights_long = h.weights_long;
+  totals_long = h.totals_long;
+  queue_long = h.queue_long;
+}
 
 -- a free arc whose tail is open
 pub bound_move : (net : NetworkData) (r : ℕ) → IsWellFormed net → IsWithinLimits net → (joins : ℕ → Bool) (level last : ℕ) (labels : List ℕ) (marks : List Bool) (order : List ℕ) (n : ℕ) (f w : List ℕ) (q : List (Option ℕ)) (i k : ℕ) →
@@ -133,7 +133,7 @@ pub now_joining : (net : NetworkData) (r : ℕ) → IsWellFormed net → IsWithi
     is_reached marks (tail_of net k) ≡ false → cost_of net k ≡ 1 → is_by (queued q (length net.arcs + tail_of net k)) (level + 1) ≡ false →
     (g x : ℕ) → g ≡ get_or f (tail_of net k) 0 + weight_of net k → x ≡ get_or w (tail_of net k) 0 + weight_of net k * (level + 1) →
     Joining net (λ j. get_or labels j 0) (is_reached marks) joins (queued q (length net.arcs + tail_of net k)) k (level + 1) n g x
-      (λ j. get_or (set f (tail_of net k) g) j 0) (λ j. get_or (set w (tail_of net k) x) j 0)
+    (λ j. get_or (set f (tail_of net k) g) j 0) (λ j. get_or (set w (tail_of net k) x) j 0)
 now_joining net r sound small joins level last labels marks order n f w q i k h into boards opened one ahead g x weight_is total_is =
     let s : ℕ → Bool = is_reached marks in
     let seen = see net labels marks i level k into in
@@ -148,7 +148,7 @@ pub now_move : (net : NetworkData) (r : ℕ) → IsWellFormed net → IsWithinLi
     is_reached marks (tail_of net k) ≡ false → cost_of net k ≡ 1 → is_by (queued q (length net.arcs + tail_of net k)) (level + 1) ≡ false →
     (g x : ℕ) → g ≡ get_or f (tail_of net k) 0 + weight_of net k → x ≡ get_or w (tail_of net k) 0 + weight_of net k * (level + 1) →
     Stands net r (seen_to net (is_reached marks) i (k + 1)) (join_at joins k) level last labels marks order n (set f (tail_of net k) g) (set w (tail_of net k) x)
-      (lowered q (length net.arcs + tail_of net k) ((net.k + x) / g))
+    (lowered q (length net.arcs + tail_of net k) ((net.k + x) / g))
 now_move net r sound small joins level last labels marks order n f w q i k h into boards opened one ahead g x weight_is total_is =
     let u : ℕ → ℕ = λ j. get_or labels j 0 in
     let s : ℕ → Bool = is_reached marks in

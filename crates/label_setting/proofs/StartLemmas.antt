@@ -1,20 +1,12 @@
 -- The start of the settling: only the destination is settled, at 0.
-use Rattle.std.proofs.Common.{◌≡◌, ◌≢◌, ℕ, zero, suc, ◌+◌, ◌-◌, ◌*◌, ◌<◌, ◌≤◌, ◌==◌, ◌&&◌, ◌||◌, Bool, true, false, not, cond, List, [], ◌∷◌, length, get_or, Option, None, Some, is_some, refl, sym, ◌∙◌, ap, arith, inl, inr, ◌⊎◌, subst}
-use Rattle.std.specs.Bool.{nat_lt}
-use Rattle.std.specs.List.{filter, sum_by, range_with_len}
-use Rattle.std.proofs.lemmas.Bool.{cases_lt, cases_eq, cases_Bool, and_parts, and_from, false≢true, eqb-true, eqb-false, lt-ltb, ltb-true, ne_eqb, eq-eqb, le-ltb, true_from_ne_false}
-use Rattle.std.proofs.Math.Nat.{mul-le-mul_left}
-use Rattle.definitions.specs.Network.{NetworkData, IsWellFormed, tail_of, head_of, cost_of, weight_of, is_boarding}
-use Rattle.definitions.specs.Reach.{IsPath, Reaches, IsReach, is_reached}
-use Rattle.definitions.specs.Labels.{SolvesLabels, Permits}
-use Rattle.definitions.specs.Dual.{time_through}
-use Rattle.definitions.proofs.SavingLemmas.{saved, saved_is, bears}
-use Rattle.definitions.proofs.Sums.{range_le, one_term, sum_by-none, range_same}
-use Rattle.label_setting.specs.Partway.{weighed, totalled, leads, carries, Allows, Within, IsTop, Before, After, Partway, Sums, Room, Ordered, all_seen, seen_to, stride}
-use Rattle.label_setting.proofs.SumLemmas.{here_same}
-use Rattle.label_setting.proofs.TopLemmas.{Carries, carried, carries_from}
-use Rattle.label_setting.proofs.ChangeLemmas.{SetAt, apart}
-use Rattle.label_setting.proofs.TallyLemmas.{carries_same}
+use Rattle.std.proofs.Common.{◌≡◌, ℕ, ◌+◌, ◌-◌, ◌*◌, ◌<◌, ◌==◌, ◌&&◌, Bool, true, false, cond, [], ◌∷◌, length, Option, None, refl, sym, ◌∙◌, ap, arith, inl, inr}
+use Rattle.std.specs.List.{sum_by, range_with_len}
+use Rattle.std.proofs.lemmas.Bool.{cases_eq, false≢true, ne_eqb, eq-eqb}
+use Rattle.definitions.specs.Network.{NetworkData, tail_of, weight_of, is_boarding}
+use Rattle.definitions.proofs.SavingLemmas.{saved}
+use Rattle.definitions.proofs.Sums.{one_term, sum_by-none, range_same}
+use Rattle.label_setting.specs.Partway.{leads, carries, Partway, Sums, Room, Ordered}
+use Rattle.label_setting.proofs.ChangeLemmas.{SetAt}
 
 -- only r is settled, at 0
 pub begins : (net : NetworkData) (r : ℕ) (u : ℕ → ℕ) (s : ℕ → Bool) (q : ℕ → Option ℕ) → u r ≡ 0 → SetAt (λ _. false) s r true → ((x : ℕ) → q x ≡ None) →
@@ -28,17 +20,17 @@ begins net r u s q start mark empty =
       reaches = λ i lt is. ([], only_r i is);
       closed = λ i lt is ne. absurd (ne (only_r i is));
       opened = λ i lt opened. rw (empty (length net.arcs + i)) (record {
-          only = λ w h. tt;
-          all = λ w h. record {
-            free = λ a alt tail free here. absurd (false≢true here);
-            waiting =
+        only = λ w h. tt;
+        all = λ w h. record {
+          free = λ a alt tail free here. absurd (false≢true here);
+          waiting =
               let none : saved (length net.arcs) (carries net (λ _. false) i) (weight_of net) (leads net u) w ≡ sum_by (λ _. 0) (range_with_len 0 (length net.arcs)) =
-                  range_same (λ a. cond (carries net (λ _. false) i a) (weight_of net a * (w - leads net u a)) 0) (λ _. 0) 0 (length net.arcs)
-                  (λ a low high. ap (λ b. cond b (weight_of net a * (w - leads net u a)) 0) (nothing (tail_of net a == i) (is_boarding net a))) in
+              range_same (λ a. cond (carries net (λ _. false) i a) (weight_of net a * (w - leads net u a)) 0) (λ _. 0) 0 (length net.arcs)
+              (λ a low high. ap (λ b. cond b (weight_of net a * (w - leads net u a)) 0) (nothing (tail_of net a == i) (is_boarding net a))) in
               let z = sum_by-none (range_with_len 0 (length net.arcs)) in
               omega arith;
-          };
-        });
+        };
+      });
       below = λ i lt is. let e = only_r i is in rw (e, start) (inr (refl, omega arith));
       later = λ x y is. absurd (let e = empty x in cc);
       joined = λ a on. on;
@@ -56,14 +48,15 @@ begins net r u s q start mark empty =
 -- no arc was joined, and nothing is weighed
 pub sums_begin : (net : NetworkData) (u : ℕ → ℕ) (s : ℕ → Bool) (f w : ℕ → ℕ) → ((i : ℕ) → f i ≡ 0) → ((i : ℕ) → w i ≡ 0) → Sums net u s (λ _. false) f w
 sums_begin net u s f w weights totals = record {
-    weights = λ i lt opened. weights i ∙ sym (zeros (weight_of net) i);
-    totals = λ i lt opened. totals i ∙ sym (zeros (λ a. weight_of net a * leads net u a) i);
-  }
+  weights = λ i lt opened. weights i ∙ sym (zeros (weight_of net) i);
+  totals = λ i lt opened. totals i ∙ sym (zeros (λ a. weight_of net a * leads net u a) i);
+}
   where
     nothing : (x y : Bool) → (x && (y && false)) ≡ false
     nothing true true = refl
     nothing true false = refl
     nothing false y = refl
+
     zeros : (g : ℕ → ℕ) (i : ℕ) → sum_by (λ a. cond (carries net (λ _. false) i a) (g a) 0) (range_with_len 0 (length net.arcs)) ≡ 0
     zeros g i =
         range_same (λ a. cond (carries net (λ _. false) i a) (g a) 0) (λ _. 0) 0 (length net.arcs)
@@ -72,18 +65,19 @@ sums_begin net u s f w weights totals = record {
 
 pub room_begin : (net : NetworkData) (r : ℕ) (u : ℕ → ℕ) (s : ℕ → Bool) (q : ℕ → Option ℕ) → r < net.nodes → u r ≡ 0 → SetAt (λ _. false) s r true → ((x : ℕ) → q x ≡ None) → Room net u s q 1
 room_begin net r u s q lt start mark empty = record {
-    nodes = λ i ilt is. elim (cases_eq i r) [ inl e ↦ rw (e, start) (omega arith) | inr ne ↦ absurd (false≢true (sym (mark.others i ne) ∙ is)) ];
-    items = λ x y is. absurd (let e = empty x in cc);
-    counted = sym (range_same (λ i. cond (s i) 1 0) (λ i. cond (r == i) 1 0) 0 net.nodes
-        (λ i low high. elim (cases_eq i r) [
-            inl e ↦ rw (e, mark.at, eq-eqb r r refl) refl
-          | inr ne ↦ rw (mark.others i ne, ne_eqb r i (λ f. ne (sym f))) refl ])
-        ∙ one_term (λ _. 1) r 0 net.nodes (omega arith) (omega arith));
-  }
+  nodes = λ i ilt is. elim (cases_eq i r) [ inl e ↦ rw (e, start) (omega arith) | inr ne ↦ absurd (false≢true (sym (mark.others i ne) ∙ is)) ];
+  items = λ x y is. absurd (let e = empty x in cc);
+  counted = sym (range_same (λ i. cond (s i) 1 0) (λ i. cond (r == i) 1 0) 0 net.nodes
+      (λ i low high. elim (cases_eq i r) [
+        | inl e ↦ rw (e, mark.at, eq-eqb r r refl) refl
+        | inr ne ↦ rw (mark.others i ne, ne_eqb r i (λ f. ne (sym f))) refl
+      ])
+      ∙ one_term (λ _. 1) r 0 net.nodes (omega arith) (omega arith));
+}
 
 pub ordered_begin : (net : NetworkData) (r : ℕ) (u : ℕ → ℕ) (s : ℕ → Bool) → r < net.nodes → SetAt (λ _. false) s r true → Ordered net.nodes u s (r ∷ [])
 ordered_begin net r u s lt mark = record {
-    inside = λ k short. let e : k ≡ 0 = omega arith in rw e (lt, mark.at);
-    all = λ i ilt is. elim (cases_eq i r) [ inl e ↦ (0, omega arith, sym e) | inr ne ↦ absurd (false≢true (sym (mark.others i ne) ∙ is)) ];
-    sorted = λ j k less short. absurd (omega arith);
-  }
+  inside = λ k short. let e : k ≡ 0 = omega arith in rw e (lt, mark.at);
+  all = λ i ilt is. elim (cases_eq i r) [ inl e ↦ (0, omega arith, sym e) | inr ne ↦ absurd (false≢true (sym (mark.others i ne) ∙ is)) ];
+  sorted = λ j k less short. absurd (omega arith);
+}

@@ -1,17 +1,15 @@
 -- Sums, bounds and counts through the steps.
-use Rattle.std.proofs.Common.{◌≡◌, ◌≢◌, ℕ, zero, suc, ◌+◌, ◌-◌, ◌*◌, ◌/◌, ◌<◌, ◌≤◌, ◌==◌, ◌&&◌, ◌||◌, Bool, true, false, not, cond, List, [], ◌∷◌, ◌++◌, length, get_or, Option, None, Some, is_some, refl, sym, ◌∙◌, ap, arith, inl, inr, ◌⊎◌, length-append, subst}
-use Rattle.std.specs.Bool.{nat_lt}
+use Rattle.std.proofs.Common.{◌≡◌, ◌≢◌, ℕ, zero, suc, ◌+◌, ◌*◌, ◌<◌, ◌≤◌, ◌==◌, ◌&&◌, Bool, true, false, cond, length, Option, None, Some, refl, sym, ◌∙◌, ap, arith, inl, inr}
 use Rattle.std.specs.List.{sum_by, range_with_len}
-use Rattle.std.proofs.lemmas.Bool.{cases_lt, cases_eq, cases_Bool, and_parts, and_from, false≢true, eqb-true, eqb-false}
-use Rattle.std.proofs.lemmas.List.{get_or_append_left, get_or_at}
+use Rattle.std.proofs.lemmas.Bool.{cases_eq, false≢true, eqb-true}
 use Rattle.std.proofs.lemmas.List.Sums.{sum_by-cons}
-use Rattle.definitions.specs.Network.{NetworkData, IsWellFormed, tail_of, head_of, cost_of, weight_of, is_boarding}
-use Rattle.definitions.proofs.Sums.{range_le, range_same, one_term, sum_by-add, sum_by-none}
+use Rattle.definitions.specs.Network.{NetworkData, tail_of, weight_of, is_boarding}
+use Rattle.definitions.proofs.Sums.{range_le}
 use Rattle.label_setting.specs.Queue.{lesser_of}
-use Rattle.label_setting.specs.Partway.{weighed, totalled, leads, carries, Before, After, Partway, Sums, Room, Ordered, Ahead, left, stride}
+use Rattle.label_setting.specs.Partway.{leads, carries, Sums, Room, stride}
 use Rattle.label_setting.proofs.SumLemmas.{here_more, here_same}
-use Rattle.label_setting.proofs.TopLemmas.{Carries, carried, carries_from, lesser_within}
-use Rattle.label_setting.proofs.ChangeLemmas.{SetAt, apart, before_after, same_some}
+use Rattle.label_setting.proofs.TopLemmas.{carried, carries_from, lesser_within}
+use Rattle.label_setting.proofs.ChangeLemmas.{SetAt, same_some}
 
 -- ---- sums
 
@@ -28,11 +26,11 @@ pub sums_kept : (net : NetworkData) (u : ℕ → ℕ) (s joins : ℕ → Bool) (
     ((b : ℕ) → b < length net.arcs → joins b ≡ true → leads net v b ≡ leads net u b) →
     Sums net v m joins f w
 sums_kept net u s joins f w h v m opened lead = record {
-    weights = λ j jlt open_j. h.weights j jlt (opened j open_j);
-    totals = λ j jlt open_j. h.totals j jlt (opened j open_j)
-        ∙ sym (here_same (length net.arcs) (carries net joins j) (carries net joins j) (λ b. weight_of net b * leads net u b) (λ b. weight_of net b * leads net v b) (λ b blt. refl)
-          (λ b blt c. ap (λ n. weight_of net b * n) (lead b blt (carried net joins j b c).here)));
-  }
+  weights = λ j jlt open_j. h.weights j jlt (opened j open_j);
+  totals = λ j jlt open_j. h.totals j jlt (opened j open_j)
+      ∙ sym (here_same (length net.arcs) (carries net joins j) (carries net joins j) (λ b. weight_of net b * leads net u b) (λ b. weight_of net b * leads net v b) (λ b blt. refl)
+      (λ b blt c. ap (λ n. weight_of net b * n) (lead b blt (carried net joins j b c).here)));
+}
 
 -- an arc joins
 pub sums_join : (net : NetworkData) (u : ℕ → ℕ) (s joins these : ℕ → Bool) (f w : ℕ → ℕ) → Sums net u s joins f w →
@@ -44,21 +42,24 @@ sums_join net u s joins these f w h a y lt boards off at now g x weight total =
     let out : carries net joins (tail_of net a) a ≡ false = out_of (carries net joins (tail_of net a) a) (λ c. false≢true (sym off ∙ (carried net joins (tail_of net a) a c).here)) in
     let still : (j b : ℕ) → b ≢ a → carries net these j b ≡ carries net joins j b = λ j b ne. carries_same net joins these j b (λ tail boarded. now.others b ne) in
     let apart_from : (j b : ℕ) → j ≢ tail_of net a → carries net these j b ≡ carries net joins j b = λ j b nj. elim (cases_eq b a) [
-          inl e ↦ carries_same net joins these j b (λ tail boarded. absurd (nj (sym tail ∙ ap (tail_of net) e)))
-        | inr ne ↦ still j b ne ] in
+      | inl e ↦ carries_same net joins these j b (λ tail boarded. absurd (nj (sym tail ∙ ap (tail_of net) e)))
+      | inr ne ↦ still j b ne
+    ] in
     record {
       weights = λ j jlt opened. elim (cases_eq j (tail_of net a)) [
-          inl e ↦ rw (e, weight.at) (
+        | inl e ↦ rw (e, weight.at) (
             ap (λ n. n + weight_of net a) (rw e at (h.weights j jlt opened))
             ∙ sym (here_more (length net.arcs) (carries net joins (tail_of net a)) (carries net these (tail_of net a)) (weight_of net) a lt out into (λ b blt ne. still (tail_of net a) b ne)))
         | inr ne ↦ weight.others j ne ∙ h.weights j jlt opened
-            ∙ sym (here_same (length net.arcs) (carries net joins j) (carries net these j) (weight_of net) (weight_of net) (λ b blt. apart_from j b ne) (λ b blt c. refl)) ];
+            ∙ sym (here_same (length net.arcs) (carries net joins j) (carries net these j) (weight_of net) (weight_of net) (λ b blt. apart_from j b ne) (λ b blt c. refl))
+      ];
       totals = λ j jlt opened. elim (cases_eq j (tail_of net a)) [
-          inl e ↦ rw (e, total.at, ← at) (
+        | inl e ↦ rw (e, total.at, ← at) (
             ap (λ n. n + weight_of net a * leads net u a) (rw e at (h.totals j jlt opened))
             ∙ sym (here_more (length net.arcs) (carries net joins (tail_of net a)) (carries net these (tail_of net a)) (λ b. weight_of net b * leads net u b) a lt out into (λ b blt ne. still (tail_of net a) b ne)))
         | inr ne ↦ total.others j ne ∙ h.totals j jlt opened
-            ∙ sym (here_same (length net.arcs) (carries net joins j) (carries net these j) (λ b. weight_of net b * leads net u b) (λ b. weight_of net b * leads net u b) (λ b blt. apart_from j b ne) (λ b blt c. refl)) ];
+            ∙ sym (here_same (length net.arcs) (carries net joins j) (carries net these j) (λ b. weight_of net b * leads net u b) (λ b. weight_of net b * leads net u b) (λ b blt. apart_from j b ne) (λ b blt c. refl))
+      ];
     }
   where
     out_of : (b : Bool) → (b ≡ true → ⊥) → b ≡ false
@@ -79,7 +80,7 @@ one_of false = omega arith
 pub room_within : (net : NetworkData) (u : ℕ → ℕ) (s : ℕ → Bool) (q : ℕ → Option ℕ) (n : ℕ) → Room net u s q n → n ≤ net.nodes
 room_within net u s q n h =
     let le : sum_by (λ i. cond (s i) 1 0) (range_with_len 0 net.nodes) ≤ sum_by (λ _. 1) (range_with_len 0 net.nodes) =
-        range_le (λ i. cond (s i) 1 0) (λ _. 1) 0 net.nodes (λ i low high. one_of (s i)) in
+    range_le (λ i. cond (s i) 1 0) (λ _. 1) 0 net.nodes (λ i low high. one_of (s i)) in
     let all = ones 0 net.nodes in
     let c = h.counted in
     omega arith
@@ -88,34 +89,38 @@ pub room_settle : (net : NetworkData) (u : ℕ → ℕ) (s : ℕ → Bool) (q : 
     (i y : ℕ) → i < net.nodes → s i ≡ false → (x : ℕ) → q x ≡ Some y →
     (v : ℕ → ℕ) (m : ℕ → Bool) (p : ℕ → Option ℕ) → SetAt u v i y → SetAt s m i true → SetAt q p x None → Room net v m p (n + 1)
 room_settle net u s q n h i y lt opened x there v m p label mark queue = record {
-    nodes = λ j jlt is. elim (cases_eq j i) [
-        inl e ↦ (let f : v j ≡ y = ap v e ∙ label.at in let b = h.items x y there in omega arith)
-      | inr ne ↦ (let f = label.others j ne in let b = h.nodes j jlt (sym (mark.others j ne) ∙ is) in omega arith) ];
-    items = λ z w is. elim (cases_eq z x) [
-        inl e ↦ absurd (let g : p z ≡ None = ap p e ∙ queue.at in cc)
-      | inr ne ↦ (let b = h.items z w (sym (queue.others z ne) ∙ is) in omega arith) ];
-    counted = let more = here_more net.nodes s m (λ _. 1) i lt opened mark.at (λ b blt ne. mark.others b ne) in let c = h.counted in omega arith;
-  }
+  nodes = λ j jlt is. elim (cases_eq j i) [
+    | inl e ↦ (let f : v j ≡ y = ap v e ∙ label.at in let b = h.items x y there in omega arith)
+    | inr ne ↦ (let f = label.others j ne in let b = h.nodes j jlt (sym (mark.others j ne) ∙ is) in omega arith)
+  ];
+  items = λ z w is. elim (cases_eq z x) [
+    | inl e ↦ absurd (let g : p z ≡ None = ap p e ∙ queue.at in cc)
+    | inr ne ↦ (let b = h.items z w (sym (queue.others z ne) ∙ is) in omega arith)
+  ];
+  counted = let more = here_more net.nodes s m (λ _. 1) i lt opened mark.at (λ b blt ne. mark.others b ne) in let c = h.counted in omega arith;
+}
 
 pub room_put : (net : NetworkData) (u : ℕ → ℕ) (s : ℕ → Bool) (q : ℕ → Option ℕ) (n : ℕ) → Room net u s q n →
     (p : ℕ → Option ℕ) (x y : ℕ) → SetAt q p x (Some y) → y ≤ n * stride → Room net u s p n
 room_put net u s q n h p x y put le = record {
-    nodes = h.nodes;
-    items = λ z w is. elim (cases_eq z x) [
-        inl e ↦ (let f : w ≡ y = same_some (p x) w y (sym (ap p e) ∙ is) put.at in omega arith)
-      | inr ne ↦ h.items z w (sym (put.others z ne) ∙ is) ];
-    counted = h.counted;
-  }
+  nodes = h.nodes;
+  items = λ z w is. elim (cases_eq z x) [
+    | inl e ↦ (let f : w ≡ y = same_some (p x) w y (sym (ap p e) ∙ is) put.at in omega arith)
+    | inr ne ↦ h.items z w (sym (put.others z ne) ∙ is)
+  ];
+  counted = h.counted;
+}
 
 pub room_cut : (net : NetworkData) (u : ℕ → ℕ) (s : ℕ → Bool) (q : ℕ → Option ℕ) (n : ℕ) → Room net u s q n →
     (p : ℕ → Option ℕ) (x : ℕ) → SetAt q p x None → Room net u s p n
 room_cut net u s q n h p x put = record {
-    nodes = h.nodes;
-    items = λ z w is. elim (cases_eq z x) [
-        inl e ↦ absurd (let g : p z ≡ None = ap p e ∙ put.at in cc)
-      | inr ne ↦ h.items z w (sym (put.others z ne) ∙ is) ];
-    counted = h.counted;
-  }
+  nodes = h.nodes;
+  items = λ z w is. elim (cases_eq z x) [
+    | inl e ↦ absurd (let g : p z ≡ None = ap p e ∙ put.at in cc)
+    | inr ne ↦ h.items z w (sym (put.others z ne) ∙ is)
+  ];
+  counted = h.counted;
+}
 
 pub lesser_le : (o : Option ℕ) (y : ℕ) → lesser_of o y ≤ y
 lesser_le o y = (lesser_within o y (lesser_of o y) (omega arith)).1

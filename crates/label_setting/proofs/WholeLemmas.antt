@@ -1,7 +1,7 @@
 -- From a reset state to the labels.
-use Rattle.std.proofs.Common.{◌≡◌, ◌≢◌, ℕ, zero, suc, ◌+◌, ◌-◌, ◌*◌, ◌<◌, ◌≤◌, ◌&&◌, Bool, true, false, cond, List, [], ◌∷◌, ◌++◌, length, get_or, set, take, Option, None, Some, refl, sym, ◌∙◌, ap, arith, inl, inr, ◌⊎◌}
+use Rattle.std.proofs.Common.{◌≡◌, ℕ, ◌+◌, ◌-◌, ◌<◌, ◌≤◌, ◌&&◌, Bool, true, false, cond, List, [], ◌∷◌, ◌++◌, length, get_or, set, take, refl, sym, ◌∙◌, ap, arith, inl, inr}
 use Rattle.std.specs.Bool.{nat_lt}
-use Rattle.std.proofs.lemmas.Bool.{cases_lt, cases_eq, cases_Bool, false≢true}
+use Rattle.std.proofs.lemmas.Bool.{cases_lt, cases_Bool, false≢true}
 use Rattle.std.proofs.lemmas.List.{get_or_past, get_or-take, length-take-le, length-set}
 use Rattle.definitions.specs.Network.{NetworkData, IsWellFormed, IsWithinLimits}
 use Rattle.definitions.specs.Reach.{is_reached, IsReach}
@@ -9,7 +9,8 @@ use Rattle.definitions.specs.Labels.{SolvesLabels, IsOrder}
 use Rattle.label_setting.specs.declared.settling.Settling.{Settling}
 use Rattle.label_setting.specs.Queue.{queued, IsEmpty}
 use Rattle.label_setting.specs.Partway.{seen_to}
-use Rattle.label_setting.specs.Settling.{Settles, IsToSpread, IsMadeFor, IsSettledBy, IsReset, label_in, mark_in, number_in, weight_in, total_in, order_in, IsFarthest}
+use Rattle.label_setting.specs.Settling.{Settles, IsToSpread, IsMadeFor, label_in, mark_in, number_in, weight_in, total_in, order_in}
+use Rattle.label_setting.specs.Changes.{IsSettledBy, IsReset, IsFarthest}
 use Rattle.label_setting.proofs.ChangeLemmas.{SetAt, set_list}
 use Rattle.label_setting.proofs.SeenLemmas.{seen_as, seen_first}
 use Rattle.label_setting.proofs.StartLemmas.{begins, sums_begin, room_begin, ordered_begin}
@@ -33,26 +34,29 @@ start_step net r lt old new made clean e =
     let first : (a : ℕ) → false ≡ seen_to net (is_reached m) r 0 a = λ a. sym (and_false (nat_lt a (length net.arcs))) ∙ seen_first net (λ _. false) (is_reached m) r refl mark a in
     let none : order_in old ≡ [] = ap (λ n. take n old.order.items) clean.settled in
     let order : order_in new ≡ r ∷ [] = e.order ∙ ap (λ o. o ++ r ∷ []) none in
-    let count : new.settled ≡ 1 = let s = clean.settled in let f = e.settled in omega arith in
-    ((λ _. false), length net.arcs + r, record {
-      there = lt;
-      marked = ap (λ b. is_reached b r) e.reached ∙ mark.at;
-      labelled = ap (λ l. get_or l r 0) e.labels ∙ label.at;
-      stands = stands_as net r (λ b. seen_to net (is_reached b) r 0) (λ _. false) 0 (length net.arcs + r) new.labels.items v new.reached.items m (order_in new) (r ∷ []) new.settled 1
-          new.weights.items old.weights.items new.totals.items old.totals.items new.queue old.queue e.labels e.reached order count e.weights e.totals e.queue
-          (record {
-            partway = seen_as net r (λ j. get_or v j 0) (is_reached m) (λ _. false) (seen_to net (is_reached m) r 0) (λ _. false) (queued old.queue) 0 (length net.arcs + r) first
-                (begins net r (λ j. get_or v j 0) (is_reached m) (queued old.queue) label.at mark clean.queue);
-            sums = sums_begin net (λ j. get_or v j 0) (is_reached m) (weight_in old) (total_in old) clean.weights clean.totals;
-            room = room_begin net r (λ j. get_or v j 0) (is_reached m) (queued old.queue) lt label.at mark clean.queue;
-            ordered = ordered_begin net r (λ j. get_or v j 0) (is_reached m) lt mark;
-            labels_long = length-set old.labels.items r 0 ∙ ll;
-            marks_long = length-set old.reached.items r true ∙ ml;
-            weights_long = made.weights;
-            totals_long = made.totals;
-            queue_long = made.queue;
-          });
-    })
+    let count : new.settled ≡ 1 = let s = clean.settled in let f = e.settled in omega arith in (
+      (λ _. false),
+      length net.arcs + r,
+      record {
+        there = lt;
+        marked = ap (λ b. is_reached b r) e.reached ∙ mark.at;
+        labelled = ap (λ l. get_or l r 0) e.labels ∙ label.at;
+        stands = stands_as net r (λ b. seen_to net (is_reached b) r 0) (λ _. false) 0 (length net.arcs + r) new.labels.items v new.reached.items m (order_in new) (r ∷ []) new.settled 1
+            new.weights.items old.weights.items new.totals.items old.totals.items new.queue old.queue e.labels e.reached order count e.weights e.totals e.queue
+            (record {
+              partway = seen_as net r (λ j. get_or v j 0) (is_reached m) (λ _. false) (seen_to net (is_reached m) r 0) (λ _. false) (queued old.queue) 0 (length net.arcs + r) first
+                  (begins net r (λ j. get_or v j 0) (is_reached m) (queued old.queue) label.at mark clean.queue);
+              sums = sums_begin net (λ j. get_or v j 0) (is_reached m) (weight_in old) (total_in old) clean.weights clean.totals;
+              room = room_begin net r (λ j. get_or v j 0) (is_reached m) (queued old.queue) lt label.at mark clean.queue;
+              ordered = ordered_begin net r (λ j. get_or v j 0) (is_reached m) lt mark;
+              labels_long = length-set old.labels.items r 0 ∙ ll;
+              marks_long = length-set old.reached.items r true ∙ ml;
+              weights_long = made.weights;
+              totals_long = made.totals;
+              queue_long = made.queue;
+            });
+      },
+    )
 
 -- a mark is within the marks
 within_marks : (marks : List Bool) (i : ℕ) → is_reached marks i ≡ true → i < length marks
@@ -99,12 +103,13 @@ finish net r sound small state h empty far_label found v vlen is =
     let same : (i : ℕ) → mark_in state i ≡ true → get_or v i 0 ≡ u i = λ i on. let w = within_marks state.reached.items i on in rw on at (is i (omega arith)) in
     let other : (i : ℕ) → i < net.nodes → mark_in state i ≡ false → get_or v i 0 ≡ u (get_or o last 0) = λ i lt off. (rw off at (is i lt)) ∙ found.2 in
     let most : (i : ℕ) → i < net.nodes → mark_in state i ≡ true → u i ≤ u (get_or o last 0) = λ i lt on.
-        let k = ord.all i lt on in
-        let e : u (get_or o k.0 0) ≡ u i = ap u k.2 in
-        let short = k.1 in
-        elim (cases_lt k.0 last) [
-          inl low ↦ elim (ord.sorted k.0 last low (omega arith)) [ inl less ↦ omega arith | inr at ↦ (let f = at.0 in omega arith) ]
-        | inr high ↦ (let f : k.0 ≡ last = omega arith in let g : u (get_or o k.0 0) ≡ u (get_or o last 0) = ap (λ n. u (get_or o n 0)) f in omega arith) ] in
+    let k = ord.all i lt on in
+    let e : u (get_or o k.0 0) ≡ u i = ap u k.2 in
+    let short = k.1 in
+    elim (cases_lt k.0 last) [
+      | inl low ↦ elim (ord.sorted k.0 last low (omega arith)) [ inl less ↦ omega arith | inr at ↦ (let f = at.0 in omega arith) ]
+      | inr high ↦ (let f : k.0 ≡ last = omega arith in let g : u (get_or o k.0 0) ≡ u (get_or o last 0) = ap (λ n. u (get_or o n 0)) f in omega arith)
+    ] in
     record {
       reach = reach net r u state.reached.items h.0 (queued state.queue) h.1 h.2 sound stands.partway empty ml;
       solution = solved net r u state.reached.items h.0 (queued state.queue) h.1 h.2 sound stands.partway v (get_or o last 0) vlen same other far.0 far.1 most;
@@ -119,7 +124,7 @@ finish net r sound small state h empty far_label found v vlen is =
           let nodes : net.nodes ≤ 1048576 = small.nodes in
           let settled = room_within net (label_in state) (mark_in state) (number_in state) state.settled stands.room in
           elim (cases_Bool (mark_in state i)) [
-            inl on ↦ (let e = same i on in let b = stands.room.nodes i lt on in omega arith)
-          | inr off ↦ (let e = other i lt off in let b = stands.room.nodes (get_or o last 0) far.0 far.1 in omega arith) ];
+            | inl on ↦ (let e = same i on in let b = stands.room.nodes i lt on in omega arith)
+            | inr off ↦ (let e = other i lt off in let b = stands.room.nodes (get_or o last 0) far.0 far.1 in omega arith)
+          ];
     }
-

@@ -1,5 +1,5 @@
 -- Labels while they are being settled: what holds of them, over functions of nodes, arcs and items of the queue.
-use Rattle.std.specs.Prelude.{◌≡◌, ◌≢◌, ℕ, ◌+◌, ◌-◌, ◌*◌, ◌<◌, ◌≤◌, ◌==◌, ◌&&◌, ◌⊎◌, Bool, true, false, List, length, Option, None, Some, is_some, not, sum_by, cond, nat_lt, ◌||◌, slice_index}
+use Rattle.std.specs.Prelude.{◌≡◌, ◌≢◌, ℕ, ◌+◌, ◌*◌, ◌<◌, ◌≤◌, ◌==◌, ◌&&◌, ◌⊎◌, Bool, true, false, List, length, Option, None, Some, is_some, not, sum_by, cond, nat_lt, ◌||◌, slice_index}
 use Rattle.std.specs.List.{range_with_len}
 use Rattle.definitions.specs.Network.{NetworkData, tail_of, head_of, cost_of, weight_of, is_boarding}
 use Rattle.definitions.specs.Reach.{Reaches}

@@ -96,14 +96,26 @@ impl Queue {
         if self.count == 0 {
             return None;
         }
-        let taken = take_from(&mut self.numbers, &mut self.heap, &mut self.places, self.count);
+        let taken = take_from(
+            &mut self.numbers,
+            &mut self.heap,
+            &mut self.places,
+            self.count,
+        );
         self.count -= 1;
         Some(taken)
     }
 }
 
 // Puts an item in, or changes its number, and answers how many are in.
-fn put_in(numbers: &mut [Option<u64>], heap: &mut [u32], places: &mut [u32], count: u32, item: u32, number: u64) -> u32
+fn put_in(
+    numbers: &mut [Option<u64>],
+    heap: &mut [u32],
+    places: &mut [u32],
+    count: u32,
+    item: u32,
+    number: u64,
+) -> u32
     requires queue { IsQueue numbers.old heap.old places.old count }
     requires item { item < length numbers.old }
     ensures queue { IsQueue numbers.new heap.new places.new result }
@@ -123,7 +135,15 @@ fn put_in(numbers: &mut [Option<u64>], heap: &mut [u32], places: &mut [u32], cou
 }
 
 // Changes the number of an item.
-fn change(numbers: &mut [Option<u64>], heap: &mut [u32], places: &mut [u32], count: u32, item: u32, before: u64, number: u64)
+fn change(
+    numbers: &mut [Option<u64>],
+    heap: &mut [u32],
+    places: &mut [u32],
+    count: u32,
+    item: u32,
+    before: u64,
+    number: u64,
+)
     requires queue { IsQueue numbers.old heap.old places.old count }
     requires before { queued numbers.old item ≡ Some before }
     ensures queue { IsQueue numbers.new heap.new places.new count }
@@ -139,7 +159,14 @@ fn change(numbers: &mut [Option<u64>], heap: &mut [u32], places: &mut [u32], cou
 }
 
 // Puts in an item that is not in.
-fn add(numbers: &mut [Option<u64>], heap: &mut [u32], places: &mut [u32], count: u32, item: u32, number: u64)
+fn add(
+    numbers: &mut [Option<u64>],
+    heap: &mut [u32],
+    places: &mut [u32],
+    count: u32,
+    item: u32,
+    number: u64,
+)
     requires queue { IsQueue numbers.old heap.old places.old count }
     requires item { item < length numbers.old }
     requires out { queued numbers.old item ≡ None }

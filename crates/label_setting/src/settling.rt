@@ -3,7 +3,8 @@
 ghost use Rattle.std.specs.Prelude.{◌≡◌, ◌+◌, ◌*◌, ◌/◌, ◌<◌, ◌^◌, false, length, replicate, IfOk, IsTrue, IsFalse};
 ghost use Rattle.definitions.specs.Network.{tail_of, cost_of, is_boarding};
 ghost use Rattle.label_setting.specs.Queue.{IsEmpty};
-ghost use Rattle.label_setting.specs.Settling.{IsMadeFor, IsSettledBy, IsQueuedAs, IsJoinedBy, IsOffered, JoinFits, item_of, is_by, mark_in, number_in};
+ghost use Rattle.label_setting.specs.Settling.{IsMadeFor, mark_in, number_in};
+ghost use Rattle.label_setting.specs.Changes.{IsSettledBy, IsQueuedAs, IsJoinedBy, IsOffered, JoinFits, item_of, is_by};
 
 use crate::queue::Queue;
 use lp_model::Network;

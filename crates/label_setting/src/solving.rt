@@ -5,7 +5,8 @@ ghost use Rattle.definitions.specs.declared.limits.TheConstants.{LABEL_LIMIT};
 ghost use Rattle.definitions.specs.Reach.{is_reached, IsReach};
 ghost use Rattle.definitions.specs.Labels.{SolvesLabels, IsOrder};
 ghost use Rattle.label_setting.specs.Queue.{IsEmpty};
-ghost use Rattle.label_setting.specs.Settling.{IsMadeFor, IsToSpread, Settles, IsReset, IsFarthest, IsSpreadFrom, mark_in, number_in, order_in};
+ghost use Rattle.label_setting.specs.Settling.{IsMadeFor, IsToSpread, Settles, mark_in, number_in, order_in};
+ghost use Rattle.label_setting.specs.Changes.{IsReset, IsFarthest, IsSpreadFrom};
 ghost use Rattle.label_setting.specs.Partway.{left};
 
 use crate::settling::{Settling, join_open, mark, offer};

@@ -1,6 +1,6 @@
-use Rattle.std.proofs.Common.{◌≡◌, ℕ, ◌<◌, ◌≤◌, length, get_or, cond, All, arith, sym, ◌∙◌, ap}
+use Rattle.std.proofs.Common.{◌≡◌, ◌≤◌, length, get_or, cond, arith, ◌∙◌, ap}
 use Rattle.std.proofs.lemmas.List.{get_or_default}
-use Rattle.label_setting.specs.Settling.{mark_in, label_in, order_in}
+use Rattle.label_setting.specs.Settling.{label_in, order_in}
 use Rattle.definitions.specs.Reach.{is_reached}
 use Rattle.label_setting.proofs.WholeLemmas.{Finish, finish, last_of}
 use Rattle.label_setting.proofs.solving.solve.Goals as goal

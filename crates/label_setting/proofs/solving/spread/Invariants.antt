@@ -1,5 +1,6 @@
 use Rattle.std.proofs.Common.{drop}
-use Rattle.label_setting.specs.Settling.{IsMadeFor, IsSpreadFrom}
+use Rattle.label_setting.specs.Settling.{IsMadeFor}
+use Rattle.label_setting.specs.Changes.{IsSpreadFrom}
 use Rattle.label_setting.proofs.StepLemmas.{SoFar}
 use Rattle.label_setting.proofs.solving.spread.Given as goal
 

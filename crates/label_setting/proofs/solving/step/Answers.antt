@@ -1,8 +1,8 @@
-use Rattle.std.proofs.Common.{◌≡◌, ℕ, ◌+◌, ◌-◌, ◌<◌, ◌≤◌, length, arith, sym, ◌∙◌, inl, inr, true, false}
+use Rattle.std.proofs.Common.{◌-◌, arith, inl, inr}
 use Rattle.std.proofs.lemmas.Bool.{cases_Bool}
 use Rattle.definitions.specs.Network.{tail_of}
 use Rattle.label_setting.specs.Settling.{mark_in}
-use Rattle.label_setting.proofs.TakeLemmas.{Goes, NodeFits, node_fits, node_step, node_left, skip_step, join_step, join_step_fits, same_settles}
+use Rattle.label_setting.proofs.TakeLemmas.{Goes, node_fits, node_step, node_left, skip_step, join_step, join_step_fits, same_settles}
 use Rattle.label_setting.proofs.solving.step.Goals as goal
 
 pub join_open-requires-clause-fits : goal.join_open-requires-clause-fits
@@ -11,10 +11,11 @@ join_open-requires-clause-fits c = λ tail.
 
 arc_goes : (c : goal.After-join_open) → Goes c.args.net.now c.args.dest c.args.state.now c.join_open.new.state
 arc_goes c = elim (cases_Bool (mark_in c.args.state.now (tail_of c.args.net.now c.in-Some.taken.item))) [
-    inl closed ↦ skip_step c.args.net.now c.args.dest c.args.state.now c.join_open.new.state c.take.new.self c.in-Some.taken c.in-Some.ensures.first c.in-Some.ensures.removed (omega arith) closed c.requires.settles
+  | inl closed ↦ skip_step c.args.net.now c.args.dest c.args.state.now c.join_open.new.state c.take.new.self c.in-Some.taken c.in-Some.ensures.first c.in-Some.ensures.removed (omega arith) closed c.requires.settles
       (c.join_open.ensures.passed closed)
   | inr opened ↦ join_step c.args.net.now c.args.dest c.rules.ensures.rules.well_formed c.rules.ensures.rules.within c.args.state.now c.join_open.new.state c.take.new.self c.in-Some.taken c.in-Some.ensures.first
-      c.in-Some.ensures.removed (omega arith) opened c.requires.settles (c.join_open.ensures.joined opened) ]
+      c.in-Some.ensures.removed (omega arith) opened c.requires.settles (c.join_open.ensures.joined opened)
+]
 
 pub returns-then-taken-arcs-clause-settles : goal.returns-then-taken-arcs-clause-settles
 returns-then-taken-arcs-clause-settles c = (arc_goes c).0
