@@ -53,7 +53,7 @@ back net r u s joins q level last sound h empty a lt head = elim (cases_Bool (s 
       ])
 ]
 
-along : (net : NetworkData) (r : ℕ) (s : ℕ → Bool) → s r ≡ true → ((a : ℕ) → a < length net.arcs → s (head_of net a) ≡ true → s (tail_of net a) ≡ true) →
+pub along : (net : NetworkData) (r : ℕ) (s : ℕ → Bool) → s r ≡ true → ((a : ℕ) → a < length net.arcs → s (head_of net a) ≡ true → s (tail_of net a) ≡ true) →
     (i : ℕ) (path : List ℕ) → IsPath net r i path → s i ≡ true
 along net r s goal back i [] e = ap s e ∙ goal
 along net r s goal back i (a ∷ path) p = ap s (sym p.1) ∙ back a p.0 (along net r s goal back (head_of net a) path p.2)

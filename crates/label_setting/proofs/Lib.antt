@@ -20,3 +20,5 @@ pub mod PutLemmas
 pub mod FirstLemmas
 pub mod TakeLemmas
 pub mod WholeLemmas
+pub mod PermitLemmas
+pub mod PlainLemmas

@@ -100,11 +100,11 @@ fn farthest(net: &Network, dest: u32, state: &Settling) -> u64
     state.labels[last as usize]
 }
 
-// Gives each node that does not reach this label.
-fn fill(labels: &mut Vec<u64>, reached: &[bool], far: u64)
-    requires { length labels.old.items ≡ length reached.now }
-    ensures each { EachIndex labels.new.items (λ node. slice_index labels.new.items node ≡ (if is_reached reached.now node then slice_index labels.old.items node else far)) }
-    ensures count { length labels.new.items ≡ length labels.old.items }
+/// Gives each node that does not reach this label.
+pub fn fill(labels: &mut [u64], reached: &[bool], far: u64)
+    requires { length labels.old ≡ length reached.now }
+    ensures each { EachIndex labels.new (λ node. slice_index labels.new node ≡ (if is_reached reached.now node then slice_index labels.old node else far)) }
+    ensures count { length labels.new ≡ length labels.old }
 {
     for node in 0..labels.len() {
         labels[node] = label_or(reached[node], labels[node], far);
