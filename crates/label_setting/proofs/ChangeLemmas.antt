@@ -1,5 +1,5 @@
 -- Functions that change at one place, and the order of items by their numbers.
-use Rattle.std.proofs.Common.{◌≡◌, ◌≢◌, ℕ, ◌<◌, ◌≤◌, Bool, true, false, List, ◌∷◌, length, get_or, set, Option, None, Some, refl, sym, ◌∙◌, ap, arith, inl, inr, ◌⊎◌}
+use Rattle.std.proofs.Common.{◌≡◌, ◌≢◌, ℕ, ◌<◌, ◌≤◌, Bool, true, false, List, ◌∷◌, length, get_or, set, Option, None, Some, refl, sym, ◌∙◌, ap, arith, inl, inr}
 use Rattle.std.specs.Bool.{nat_lt}
 use Rattle.std.proofs.lemmas.Bool.{cases_lt, cases_eq, cases_Bool, false≢true, ltb-false}
 use Rattle.std.proofs.lemmas.List.{get_or-set_same, get_or-set_other}
@@ -41,10 +41,6 @@ before_level x i y j a = elim a [ inl l ↦ omega arith | inr r ↦ (let e = r.0
 
 pub after_ge : (y i z x : ℕ) → y ≤ z → i < x → After y i z x
 after_ge y i z x le lt = elim (cases_lt y z) [ inl less ↦ inl less | inr same ↦ inr (omega arith, lt) ]
-
-pub some_or_none : (o : Option ℕ) → (o ≡ None) ⊎ ((y : ℕ) × (o ≡ Some y))
-some_or_none None = inl refl
-some_or_none (Some y) = inr (y, refl)
 
 pub same_some : (o : Option ℕ) (x y : ℕ) → o ≡ Some x → o ≡ Some y → x ≡ y
 same_some o x y e f = cc

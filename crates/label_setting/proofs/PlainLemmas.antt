@@ -1,7 +1,7 @@
 -- Labels that lie above those of the equations stay so as nodes are marked and labels fall, and are these in the end.
-use Rattle.std.proofs.Common.{◌≡◌, ◌≢◌, ℕ, ◌+◌, ◌<◌, ◌≤◌, Bool, true, false, cond, List, [], length, get_or, set, replicate, sym, ◌∙◌, ap, arith, inl, inr}
+use Rattle.std.proofs.Common.{◌≡◌, ◌≢◌, ℕ, ◌+◌, ◌<◌, ◌≤◌, Bool, true, false, cond, List, length, get_or, set, sym, ◌∙◌, ap, arith, inl, inr}
 use Rattle.std.proofs.lemmas.Bool.{cases_lt, cases_eq, false≢true}
-use Rattle.std.proofs.lemmas.List.{length-set, length-replicate, get_or-replicate, get_or_past}
+use Rattle.std.proofs.lemmas.List.{length-set, get_or_past}
 use Rattle.definitions.specs.Network.{NetworkData, IsWellFormed, IsWithinLimits, tail_of, head_of, cost_of}
 use Rattle.definitions.specs.Reach.{IsReach, is_reached}
 use Rattle.definitions.specs.Labels.{Permits, SolvesLabels}
@@ -144,31 +144,6 @@ above_fits net r m u small h j =
     let c = count_within net m in
     let nodes : net.nodes ≤ 1048576 = small.nodes in
     omega arith
-
--- the start: only the destination is marked
-pub above_begin : (net : NetworkData) (r : ℕ) (m : List Bool) (u : List ℕ) → r < net.nodes → u ≡ replicate net.nodes 0 → m ≡ replicate net.nodes false → IsAbove net r (set m r true) u
-above_begin net r m u lt zeros blank =
-    let ll : length u ≡ net.nodes = ap length zeros ∙ length-replicate net.nodes 0 in
-    let ml : length m ≡ net.nodes = ap length blank ∙ length-replicate net.nodes false in
-    let zero : (j : ℕ) → get_or u j 0 ≡ 0 = λ j. elim (cases_lt j net.nodes) [
-      | inl low ↦ ap (λ l. get_or l j 0) zeros ∙ get_or-replicate net.nodes j 0 0 low
-      | inr high ↦ get_or_past u j 0 (omega arith)
-    ] in
-    let off : (j : ℕ) → is_reached m j ≡ false = λ j. elim (cases_lt j net.nodes) [
-      | inl low ↦ ap (λ l. get_or l j false) blank ∙ get_or-replicate net.nodes j false false low
-      | inr high ↦ get_or_past m j false (omega arith)
-    ] in
-    let mark : SetAt (is_reached m) (is_reached (set m r true)) r true = set_list m r true false (omega arith) in
-    let only : (j : ℕ) → is_reached (set m r true) j ≡ true → j ≡ r = λ j on. elim (cases_eq j r) [ inl e ↦ e | inr ne ↦ absurd (false≢true (sym (mark.others j ne ∙ off j) ∙ on)) ] in
-    record {
-      label_per_node = ll;
-      mark_per_node = length-set m r true ∙ ml;
-      goal = mark.at;
-      zero = zero r;
-      reaches = λ j jlt on. ([], only j on);
-      above = λ j jlt on ne x p. absurd (ne (only j on));
-      bounded = λ j. let z = zero j in omega arith;
-    }
 
 -- a marked node is one of the network
 pub mark_within : (net : NetworkData) (r : ℕ) (m : List Bool) (u : List ℕ) → IsAbove net r m u → (i : ℕ) → is_reached m i ≡ true → i < net.nodes

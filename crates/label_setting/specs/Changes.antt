@@ -33,13 +33,15 @@ item_of net node = length net.arcs + node
 abbrev pub lowered : List (Option ℕ) → ℕ → ℕ → List (Option ℕ)
 lowered queue item most = slice_set queue item (Some (lesser_of (queued queue item) most))
 
--- the weight and the total at the tail of an arc once it joins with what it leads to, and what these permit
+-- the combined weight at the tail of an arc once it joins
 abbrev pub weight_with : NetworkData → ℕ → Settling → ℕ
 weight_with net arc state = weight_in state (tail_of net arc) + weight_of net arc
 
+-- the sum of weights times what arcs lead to, once an arc joins with this time
 abbrev pub total_with : NetworkData → ℕ → ℕ → Settling → ℕ
 total_with net arc time state = total_in state (tail_of net arc) + weight_of net arc * time
 
+-- the label that weight and sum permit once an arc joins
 abbrev pub label_with : NetworkData → ℕ → ℕ → Settling → ℕ
 label_with net arc time state = (net.k + total_with net arc time state) / weight_with net arc state
 

@@ -8,10 +8,11 @@ use Rattle.definitions.specs.Labels.{Permits}
 use Rattle.definitions.proofs.SavingLemmas.{bears}
 use Rattle.label_setting.specs.Partway.{stride}
 
--- how many nodes are marked, and how many are not
+-- how many nodes are marked
 abbrev pub marked : NetworkData → List Bool → ℕ
 marked net reached = sum_by (λ node. cond (is_reached reached node) 1 0) (range_with_len 0 net.nodes)
 
+-- how many nodes are not marked
 abbrev pub unmarked : NetworkData → List Bool → ℕ
 unmarked net reached = sum_by (λ node. cond (is_reached reached node) 0 1) (range_with_len 0 net.nodes)
 

@@ -6,19 +6,23 @@ use Rattle.label_setting.specs.declared.settling.Settling.{Settling}
 use Rattle.label_setting.specs.Queue.{queued}
 use Rattle.label_setting.specs.Partway.{Partway, Sums, Room, Ordered, all_seen, seen_to}
 
--- the label of a node, whether it is settled, the number of an item, and weight and total of the arcs that joined at a node
+-- the label of a node
 abbrev pub label_in : Settling → ℕ → ℕ
 label_in state node = slice_index state.labels.items node
 
+-- whether a node is settled
 abbrev pub mark_in : Settling → ℕ → Bool
 mark_in state node = is_reached state.reached.items node
 
+-- the number of an item in the queue
 abbrev pub number_in : Settling → ℕ → Option ℕ
 number_in state item = queued state.queue item
 
+-- the combined weight of the arcs that joined at a node
 abbrev pub weight_in : Settling → ℕ → ℕ
 weight_in state node = slice_index state.weights.items node
 
+-- the sum of their weights, each times what the arc leads to
 abbrev pub total_in : Settling → ℕ → ℕ
 total_in state node = slice_index state.totals.items node
 
