@@ -7,7 +7,6 @@ use Rattle.definitions.proofs.Sums.{sum_by-scale, sum_by-add, range_le, range_sa
 use Rattle.definitions.proofs.SavingLemmas.{saved}
 use Rattle.label_setting.specs.Partway.{weighed, totalled}
 
-
 above_term : (h : Bool) (f t w : ℕ) → w * cond h f 0 ≤ cond h (f * (w - t)) 0 + cond h (f * t) 0
 above_term true f t w =
     let less : w ≤ (w - t) + t = omega arith in

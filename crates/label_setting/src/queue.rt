@@ -1,4 +1,4 @@
-// A queue of fixed room.
+//! A queue of fixed room: items with their numbers, as an indexed heap in flat arrays.
 
 ghost use Rattle.std.specs.Prelude.{◌≡◌, ◌+◌, ◌<◌, ◌≤◌, ◌-◌, ◌^◌, length, None, Some, IfOk, IfNone, IfSome, IsTrue, IsFalse, is_some, unwrap_or, slice_set, replicate, slice_index};
 ghost use Rattle.label_setting.specs.Queue.{queued, IsFirst, IsEmpty, lesser_of};
@@ -8,14 +8,16 @@ use crate::heap::{sift_down, sift_up};
 use std::alloc::{AllocError, Global};
 use std::marker::Model;
 
-/// An item with its number.
-#[derive(Clone, Copy, Drop)]
+/// An item that was taken out of a queue, with its number.
+#[derive(Clone, Copy, Debug, Drop, PartialEq, Eq)]
 pub struct Taken {
     pub item: u32,
     pub number: u64,
 }
 
-/// The numbers of the items that are in the queue.
+/// Items below a number, each at most once, with their numbers.
+///
+/// A contract sees the list of all items' numbers, `None` for one that is not in the queue.
 #[derive(Drop)]
 pub struct Queue {
     numbers: Vec<Option<u64>>,
@@ -36,9 +38,13 @@ impl Model for Queue {
 }
 
 impl Queue {
-    /// An empty queue with room for the items below `room`.
+    /// An empty queue with room for each of the items below `room`.
+    ///
+    /// # Refusals
+    ///
+    /// `AllocError` where there is no memory.
     pub fn new(alloc: Global, room: u32) -> Result<Queue, AllocError>
-        ensures { IfOk result (λ q. q ≡ replicate room None) }
+        ensures value { IfOk result (λ queue. queue ≡ replicate room None) }
     {
         let n = room as usize;
         let numbers = vec![in alloc; None; n]?;
@@ -52,18 +58,18 @@ impl Queue {
         })
     }
 
-    /// The number of an item in the queue.
-    pub fn get(&self, item: u32) -> Option<u64>
-        requires { item < length self.now }
-        ensures { result ≡ queued self.now item }
+    /// The number of an item, None where it is not in the queue.
+    pub fn number(&self, item: u32) -> Option<u64>
+        requires there { item < length self.now }
+        ensures value { result ≡ queued self.now item }
     {
         self.numbers[item as usize]
     }
 
-    /// Sets the number of an item.
+    /// Sets the number of an item, whether it is in the queue or not.
     pub fn put(&mut self, item: u32, number: u64)
-        requires { item < length self.old }
-        ensures { self.new ≡ slice_set self.old item (Some number) }
+        requires there { item < length self.old }
+        ensures value { self.new ≡ slice_set self.old item (Some number) }
     {
         self.count = put_in(
             &mut self.numbers,
@@ -75,18 +81,19 @@ impl Queue {
         );
     }
 
-    /// Lowers the number of an item to a bound, or puts it in with that.
+    /// Lowers the number of an item to `bound` where it is higher, or puts it in with `bound`.
     pub fn lower(&mut self, item: u32, bound: u64)
-        requires { item < length self.old }
-        ensures { self.new ≡ slice_set self.old item (Some (lesser_of (queued self.old item) bound)) }
+        requires there { item < length self.old }
+        ensures value { self.new ≡ slice_set self.old item (Some (lesser_of (queued self.old item) bound)) }
     {
-        match self.get(item) {
+        match self.number(item) {
             Some(number) if number < bound => self.put(item, number),
             _ => self.put(item, bound),
         }
     }
 
-    /// Takes out the item of least number, of these the least item.
+    /// Takes out the item of least number, the lowest where several have it, and gives None where
+    /// the queue is empty.
     pub fn take(&mut self) -> Option<Taken>
         ensures empty { IfNone result (IsEmpty self.old) }
         ensures unchanged { IfNone result (self.new ≡ self.old) }
@@ -96,14 +103,26 @@ impl Queue {
         if self.count == 0 {
             return None;
         }
-        let taken = take_from(&mut self.numbers, &mut self.heap, &mut self.places, self.count);
+        let taken = take_from(
+            &mut self.numbers,
+            &mut self.heap,
+            &mut self.places,
+            self.count,
+        );
         self.count -= 1;
         Some(taken)
     }
 }
 
 // Puts an item in, or changes its number, and answers how many are in.
-fn put_in(numbers: &mut [Option<u64>], heap: &mut [u32], places: &mut [u32], count: u32, item: u32, number: u64) -> u32
+fn put_in(
+    numbers: &mut [Option<u64>],
+    heap: &mut [u32],
+    places: &mut [u32],
+    count: u32,
+    item: u32,
+    number: u64,
+) -> u32
     requires queue { IsQueue numbers.old heap.old places.old count }
     requires item { item < length numbers.old }
     ensures queue { IsQueue numbers.new heap.new places.new result }
@@ -123,7 +142,15 @@ fn put_in(numbers: &mut [Option<u64>], heap: &mut [u32], places: &mut [u32], cou
 }
 
 // Changes the number of an item.
-fn change(numbers: &mut [Option<u64>], heap: &mut [u32], places: &mut [u32], count: u32, item: u32, before: u64, number: u64)
+fn change(
+    numbers: &mut [Option<u64>],
+    heap: &mut [u32],
+    places: &mut [u32],
+    count: u32,
+    item: u32,
+    before: u64,
+    number: u64,
+)
     requires queue { IsQueue numbers.old heap.old places.old count }
     requires before { queued numbers.old item ≡ Some before }
     ensures queue { IsQueue numbers.new heap.new places.new count }
@@ -139,7 +166,14 @@ fn change(numbers: &mut [Option<u64>], heap: &mut [u32], places: &mut [u32], cou
 }
 
 // Puts in an item that is not in.
-fn add(numbers: &mut [Option<u64>], heap: &mut [u32], places: &mut [u32], count: u32, item: u32, number: u64)
+fn add(
+    numbers: &mut [Option<u64>],
+    heap: &mut [u32],
+    places: &mut [u32],
+    count: u32,
+    item: u32,
+    number: u64,
+)
     requires queue { IsQueue numbers.old heap.old places.old count }
     requires item { item < length numbers.old }
     requires out { queued numbers.old item ≡ None }
@@ -176,6 +210,7 @@ fn take_from(numbers: &mut [Option<u64>], heap: &mut [u32], places: &mut [u32], 
     Taken { item, number }
 }
 
+// A number, 0 where there is none.
 fn number_of(number: Option<u64>) -> u64
     ensures { result ≡ unwrap_or number 0 }
 {
@@ -184,3 +219,6 @@ fn number_of(number: Option<u64>) -> u64
         None => 0,
     }
 }
+
+#[cfg(test)]
+mod tests;

@@ -1,15 +1,31 @@
 //! From an empty state to the labels of a destination.
 
-ghost use Rattle.std.specs.Prelude.{◌≡◌, ◌<◌, ◌≤◌, All, length, IsTrue, IsFalse, slice_index, EachIndex, if◌then◌else◌};
+ghost use Rattle.std.specs.Prelude.{◌≡◌, ◌<◌, ◌≤◌, ◌^◌, All, length, IsTrue, IsFalse, slice_index, EachIndex, if◌then◌else◌};
 ghost use Rattle.definitions.specs.declared.limits.TheConstants.{LABEL_LIMIT};
 ghost use Rattle.definitions.specs.Reach.{is_reached, IsReach};
 ghost use Rattle.definitions.specs.Labels.{SolvesLabels, IsOrder};
 ghost use Rattle.label_setting.specs.Queue.{IsEmpty};
-ghost use Rattle.label_setting.specs.Settling.{IsMadeFor, Settles, IsReset, IsFarthest, mark_in, number_in, order_in};
+ghost use Rattle.label_setting.specs.Settling.{IsMadeFor, IsToSpread, Settles, mark_in, number_in, order_in};
+ghost use Rattle.label_setting.specs.Changes.{IsReset, IsFarthest, IsSpreadFrom};
 ghost use Rattle.label_setting.specs.Partway.{left};
 
-use crate::settling::{Settling, join, settle};
+use crate::settling::{Settling, join_open, mark, offer};
 use lp_model::Network;
+
+// Looks at the arcs into a node that was settled with this label.
+fn spread(net: &Network, dest: u32, node: u32, label: u64, state: &mut Settling)
+    requires made { IsMadeFor net.now state.old }
+    requires label { label < 2 ^ 63 }
+    requires spreads { IsToSpread net.now dest node label state.old }
+    ensures made { IsMadeFor net.now state.new }
+    ensures settles { Settles net.now dest state.new }
+    ensures spread { IsSpreadFrom net.now node state.old state.new }
+{
+    net.rules();
+    for arc in net.into(node) {
+        offer(net, *arc, label, state);
+    }
+}
 
 // Takes what is first in the queue, and settles or joins it. False where the queue is empty.
 fn step(net: &Network, dest: u32, state: &mut Settling) -> bool
@@ -21,16 +37,16 @@ fn step(net: &Network, dest: u32, state: &mut Settling) -> bool
     ensures last { IsFalse result → IsEmpty state.new.queue }
 {
     net.rules();
-    let _nodes = net.nodes();
     let arcs = net.arcs();
     let Some(taken) = state.queue.take() else {
         return false;
     };
     if taken.item < arcs {
-        join(net, taken.item, taken.number, state);
+        join_open(net, taken.item, taken.number, state);
         return true;
     }
-    settle(net, taken.item - arcs, taken.number, state);
+    mark(net, taken.item - arcs, taken.number, state);
+    spread(net, dest, taken.item - arcs, taken.number, state);
     true
 }
 
@@ -69,7 +85,8 @@ fn start(net: &Network, dest: u32, state: &mut Settling)
 {
     net.rules();
     reset(net, state);
-    settle(net, dest, 0, state);
+    mark(net, dest, 0, state);
+    spread(net, dest, dest, 0, state);
 }
 
 // The greatest label of the nodes that reach.
@@ -83,11 +100,11 @@ fn farthest(net: &Network, dest: u32, state: &Settling) -> u64
     state.labels[last as usize]
 }
 
-// Gives each node that does not reach this label.
-fn fill(labels: &mut Vec<u64>, reached: &[bool], far: u64)
-    requires { length labels.old.items ≡ length reached.now }
-    ensures each { EachIndex labels.new.items (λ node. slice_index labels.new.items node ≡ (if is_reached reached.now node then slice_index labels.old.items node else far)) }
-    ensures count { length labels.new.items ≡ length labels.old.items }
+/// Gives each node that does not reach this label.
+pub fn fill(labels: &mut [u64], reached: &[bool], far: u64)
+    requires { length labels.old ≡ length reached.now }
+    ensures each { EachIndex labels.new (λ node. slice_index labels.new node ≡ (if is_reached reached.now node then slice_index labels.old node else far)) }
+    ensures count { length labels.new ≡ length labels.old }
 {
     for node in 0..labels.len() {
         labels[node] = label_or(reached[node], labels[node], far);

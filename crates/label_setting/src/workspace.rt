@@ -89,3 +89,6 @@ pub fn labels(net: &Network, dest: u32, ws: &mut Workspace)
     net.rules();
     solve(net, dest, &mut ws.state);
 }
+
+#[cfg(test)]
+mod tests;

@@ -1,7 +1,7 @@
-use Rattle.std.proofs.Common.{◌≡◌, ℕ, ◌+◌, ◌-◌, ◌<◌, ◌≤◌, length, get_or, arith, sym, ◌∙◌, ap}
+use Rattle.std.proofs.Common.{◌≡◌, ◌-◌, get_or, arith, sym, ◌∙◌, ap}
 use Rattle.std.proofs.lemmas.List.{get_or_read}
-use Rattle.label_setting.specs.Settling.{label_in, order_in}
-use Rattle.label_setting.proofs.Whole.{last_of}
+use Rattle.label_setting.specs.Settling.{label_in}
+use Rattle.label_setting.proofs.WholeLemmas.{last_of}
 use Rattle.label_setting.proofs.solving.farthest.Goals as goal
 
 pub index-last-requires : goal.index-last-requires

@@ -1,5 +1,5 @@
-use Rattle.label_setting.proofs.Whole.{start_step}
+use Rattle.label_setting.proofs.WholeLemmas.{start_step}
 use Rattle.label_setting.proofs.solving.start.Goals as goal
 
-pub returns-clause-settles : goal.returns-clause-settles
-returns-clause-settles c = start_step c.args.net.now c.args.dest c.rules.ensures.rules.well_formed c.rules.ensures.rules.within c.requires.dest c.reset.new.state c.settle.new.state c.reset.ensures.made c.reset.ensures.reset c.settle.ensures.settled
+pub spread-requires-clause-spreads : goal.spread-requires-clause-spreads
+spread-requires-clause-spreads c = start_step c.args.net.now c.args.dest c.requires.dest c.reset.new.state c.mark.new.state c.reset.ensures.made c.reset.ensures.reset c.mark.ensures.settled
