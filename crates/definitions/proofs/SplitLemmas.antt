@@ -112,10 +112,8 @@ fewer_left units weight (x ∷ xs) some =
     elim (cases_lt left (length arcs)) [
       | inl lt ↦ lt
       | inr ge ↦ absurd (
-          let same : left ≡ length arcs = omega arith in
-          let times : all * left ≡ all * length arcs = ap (λ n. all * n) same in
-          let none : length arcs ≡ 0 = omega arith in
-          absurd (let some : 0 < length arcs = omega arith in omega arith))
+          let times : all * left ≡ all * length arcs = ap (λ n. all * n) (let same : left ≡ length arcs = omega arith in same) in
+          omega arith)
     ]
 
 -- ---- the shares

@@ -4,7 +4,6 @@ use Rattle.std.specs.List.{range_with_len, sum_by}
 use Rattle.std.proofs.lemmas.List.{ext_get_or}
 use Rattle.std.proofs.lemmas.List.FromFn.{get_or-range_with_len, length-range_with_len}
 use Rattle.std.proofs.lemmas.Bool.{le-ltb}
-use Rattle.std.proofs.lemmas.List.Sums.{get_or-le-sum_by}
 use Rattle.definitions.specs.Split.{whole_share, remainder, units_left, count_before, share}
 use Rattle.definitions.proofs.Sums.{range_same}
 use Rattle.definitions.proofs.DualityLemmas.{places}
@@ -57,13 +56,6 @@ left_is units all ws out h = ap (λ s. units - s) (whole_sum units all ws out h)
 pub left_few : (units all : ℕ) (ws out : List ℕ) → AreWhole units all ws out → units - sum out < length ws
 left_few units all ws out h = rw (left_is units all ws out h)
     (let few = fewer_left units (weight_in ws) (numbers ws) (some_at units all ws out h) in omega (arith, length-range_with_len 0 (length ws)))
-
--- no whole part is more than the units
-pub each_within : (units all : ℕ) (ws out : List ℕ) → AreWhole units all ws out → (a : ℕ) → a < length out → get_or out a 0 ≤ units
-each_within units all ws out h a lt =
-    let part : get_or out a 0 ≤ sum out = get_or-le-sum_by (λ v. v) out a 0 lt in
-    let whole = within_units units all ws out h in
-    omega arith
 
 -- places at their own are a range
 pub numbered : (n : ℕ) (xs : List ℕ) → IsNumbered n xs → range_with_len 0 n ≡ xs

@@ -4,12 +4,11 @@ use Rattle.std.specs.List.{sum_by}
 use Rattle.std.proofs.lemmas.List.{get_or_past}
 use Rattle.std.proofs.lemmas.Bool.Decides.{eqb_tells}
 use Rattle.std.proofs.lemmas.Bool.{cases_lt, cases_order, cases_Bool, cases_eq, false≢true}
-use Rattle.definitions.specs.declared.choice.Choice.TheVariants.{Stop}
 use Rattle.definitions.specs.Network.{NetworkData, IsWellFormed, tail_of, head_of, arc_numbers, out_arcs}
 use Rattle.definitions.specs.Reach.{is_reached}
 use Rattle.definitions.specs.Labels.{SolvesLabels, StandsBefore, IsOrder}
 use Rattle.definitions.specs.Choice.{choice_at}
-use Rattle.definitions.specs.Volumes.{part_of, units_at, SolvesVolumes}
+use Rattle.definitions.specs.Volumes.{part_of, units_at}
 use Rattle.definitions.proofs.Sums.{sum_by-filter, range_same, sum_by-none}
 use Rattle.definitions.proofs.ChoiceLemmas.{LeadsOn, idle_or_on, chosen}
 use Rattle.definitions.proofs.VolumeLemmas.{all_sent}
@@ -161,32 +160,3 @@ next_loaded net destination reached labels demand order p v w sound by so lt lon
       ];
       rest = λ a within none. keeps a within (none p (omega arith) lt) ∙ so.rest a within (λ k low inside. none k (omega arith) inside);
     }
-
--- ---- the start and the end
-
-pub none_loaded : (net : NetworkData) (destination : ℕ) (reached : List Bool) (labels demand order v : List ℕ) → length v ≡ length net.arcs →
-    ((a : ℕ) → a < length v → get_or v a 0 ≡ 0) → IsLoadedFrom net destination reached labels demand order (length order) v
-none_loaded net destination reached labels demand order v long zeros = record {
-  volume_per_arc = long;
-  done = λ k a low inside within from. absurd (omega arith);
-  rest = λ a within none. zeros a (omega arith);
-}
-
-lost_stops_here : (net : NetworkData) (destination : ℕ) (reached : List Bool) (labels : List ℕ) (i : ℕ) → is_reached reached i ≡ false → choice_at net destination reached labels i ≡ Stop
-lost_stops_here net destination reached labels i off = elim (cases_Bool (i == destination)) [
-  | inl at ↦ rw at refl
-  | inr away ↦ rw (away, off) refl
-]
-
-pub all_loaded : (net : NetworkData) (destination : ℕ) (reached : List Bool) (labels demand order v : List ℕ) → IsWellFormed net → IsByLabel net reached labels order →
-    IsLoadedFrom net destination reached labels demand order 0 v → SolvesVolumes net destination reached labels demand v
-all_loaded net destination reached labels demand order v sound by so = record {
-  volume_per_arc = so.volume_per_arc;
-  parts = λ a lt. elim (cases_Bool (is_reached reached (tail_of net a))) [
-    | inl on ↦ (let w = by.all (tail_of net a) (sound.tails a lt) on in
-        so.done w.0 a (omega arith) w.1 lt (sym w.2) ∙ ap (λ j. part_of net reached labels (choice_at net destination reached labels j) (units_at net demand v j) a) w.2)
-    | inr off ↦ (
-        so.rest a lt (λ k low inside same. false≢true (sym off ∙ ap (is_reached reached) same ∙ by.on k inside))
-        ∙ sym (ap (λ c. part_of net reached labels c (units_at net demand v (tail_of net a)) a) (lost_stops_here net destination reached labels (tail_of net a) off)))
-  ];
-}

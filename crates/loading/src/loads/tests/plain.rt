@@ -12,24 +12,20 @@ fn is_reached(reached: &[bool], node: u32) -> bool {
     reached.get(node as usize).copied().unwrap_or(false)
 }
 
-// Whether an arc leads to a node that reaches.
-fn leads_on(reached: &[bool], arc: &NetArc) -> bool {
-    is_reached(reached, arc.head)
-}
-
 fn time_through(labels: &[u64], arc: &NetArc) -> u64 {
     at(labels, arc.head).saturating_add(arc.cost as u64)
 }
 
 fn is_tight(labels: &[u64], reached: &[bool], arc: &NetArc) -> bool {
     arc.weight.is_none()
-        && leads_on(reached, arc)
+        && is_reached(reached, arc.head)
         && time_through(labels, arc) == at(labels, arc.tail)
 }
 
 // The weight of an attractive arc of a node, 0 of any other arc.
 fn weight_at(labels: &[u64], reached: &[bool], node: u32, arc: &NetArc) -> u64 {
-    let attractive = leads_on(reached, arc) && time_through(labels, arc) <= at(labels, arc.tail);
+    let attractive = is_reached(reached, arc.head)
+        && time_through(labels, arc) <= at(labels, arc.tail);
     if arc.tail == node && attractive {
         arc.weight.unwrap_or(0) as u64
     } else {
