@@ -12,7 +12,8 @@ use Rattle.certificate.specs.Refusals.{HasFaultyLine}
 use Rattle.certificate.specs.Fed.{IsUnended}
 use Rattle.certificate.proofs.Trails.{one_stop}
 use Rattle.certificate.proofs.FaultsRead.{stops_at}
-use Rattle.certificate.proofs.DraftTrail.{start, HasTrail, trail_at}
+use Rattle.certificate.specs.GoodLines.{start}
+use Rattle.certificate.proofs.DraftTrail.{HasTrail, trail_at}
 
 -- the reading of one text stops with one fault
 pub one_fault : (a b : DraftData) (r s : List ℕ) (f g : Fault) → IsKept a → IsKept b → text_so_far a ++ r ≡ text_so_far b ++ s → line_at a r ≡ Err f → line_at b s ≡ Err g → f ≡ g
