@@ -14,7 +14,7 @@ use Rattle.certificate.specs.NetworkText.{network_title}
 use Rattle.certificate.specs.Draft.{DraftData, network_so_far, text_so_far}
 use Rattle.certificate.specs.NextLine.{line_at}
 use Rattle.certificate.specs.Kept.{HasRows, IsAtStage, IsKept}
-use Rattle.certificate.specs.Grammar.{Line, line_text, Kind, kind_at, IsOf, IsNext}
+use Rattle.certificate.specs.Grammar.{Line, line_text, Kind, kind_at, IsOf}
 use Rattle.certificate.specs.GoodLines.{start, step}
 use Rattle.certificate.specs.NetworkRefusals.{IsProblem, IsNetworkAnswered}
 use Rattle.certificate.specs.ProblemDraft.{problem_so_far, IsWithinText, IsUnclaimed, HasDemandLeft, IsProblemWhole}

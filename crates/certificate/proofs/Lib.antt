@@ -18,6 +18,7 @@ pub mod ProblemTrail
 pub mod ProblemStages
 pub mod NetworkStops
 pub mod OneProblem
+pub mod OfLines
 pub mod NetworkAnswers
 pub mod OneFault
 pub mod OneRefusal

@@ -14,7 +14,7 @@ use Rattle.certificate.specs.NetworkRefusals.{IsProblem, problem_of, HasProblem,
 use Rattle.certificate.specs.ProblemDraft.{problem_so_far, IsProblemWhole, StopsInProblem, StopsAtEnd}
 use Rattle.certificate.specs.Stops.{refusal_of}
 use Rattle.certificate.proofs.NetworkStops.{line_refused, end_refused, text_read}
-use Rattle.certificate.proofs.OneProblem.{only_read, not_refused, only_refused, refused_only}
+use Rattle.certificate.proofs.OneProblem.{only_read, not_refused}
 
 -- ---- the lines
 

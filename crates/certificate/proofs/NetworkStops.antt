@@ -1,5 +1,5 @@
 -- Where the reading of a network text stops, its refusal stands.
-use Rattle.std.proofs.Common.{◌≡◌, ℕ, ◌<◌, ◌≤◌, List, [], ◌∷◌, ◌++◌, length, length-append, Ok, Err, refl, sym, ap, subst, ◌∙◌, append_assoc, arith, inl, inr}
+use Rattle.std.proofs.Common.{◌≡◌, ℕ, ◌<◌, List, [], ◌∷◌, ◌++◌, length, length-append, Err, refl, sym, ap, subst, ◌∙◌, append_assoc, arith, inl, inr}
 use Rattle.std.specs.Prelude.{codes}
 use Rattle.std.specs.List.{flat_map}
 use Rattle.std.proofs.lemmas.Bool.{le-ltb}
@@ -7,17 +7,15 @@ use Rattle.std.proofs.lemmas.List.{append-nil, append_cancel_left}
 use Rattle.std.proofs.lemmas.Grind.{flat_map-append}
 use Rattle.definitions.specs.Decimal.{number_line}
 use Rattle.certificate.specs.declared.fault.Fault.{Fault}
-use Rattle.certificate.specs.declared.fault.Fault.TheVariants as fault
-use Rattle.certificate.specs.declared.stage.Stage.TheVariants as stage
 use Rattle.certificate.specs.Bytes.{literal_at}
 use Rattle.certificate.specs.Spelling.{title, last_line, arc_line}
 use Rattle.certificate.specs.NetworkText.{network_title, network_spelling}
-use Rattle.certificate.specs.Draft.{DraftData, text_before, text_so_far, up_to_rows}
+use Rattle.certificate.specs.Draft.{DraftData, text_before, text_so_far}
 use Rattle.certificate.specs.Kept.{HasRows, IsAtStage}
 use Rattle.certificate.specs.Grammar.{Line, line_text, Kind, IsOf}
 use Rattle.certificate.specs.GoodLines.{start, step, AreGoodLines}
 use Rattle.certificate.specs.NetworkRefusals.{problem_kind, HasNetworkRefusal}
-use Rattle.certificate.specs.ProblemDraft.{problem_so_far, IsUnclaimed, IsProblemWhole, StopsInProblem, StopsAtEnd}
+use Rattle.certificate.specs.ProblemDraft.{problem_so_far, IsProblemWhole, StopsInProblem, StopsAtEnd}
 use Rattle.certificate.specs.Stops.{refusal_of}
 use Rattle.certificate.proofs.ExactJudged.{HasUnits}
 use Rattle.certificate.proofs.KindReaders.{reader_at}

@@ -2,7 +2,6 @@
 use Rattle.std.proofs.Common.{◌≡◌, ℕ, ◌<◌, ◌≤◌, List, [], ◌∷◌, ◌++◌, length, length-append, ◌+◌, Result, Ok, Err, refl, sym, ap, ◌∙◌, arith, inl, inr}
 use Rattle.std.specs.Prelude.{sum}
 use Rattle.std.specs.List.{flat_map}
-use Rattle.std.specs.Result.{IsErrAnd}
 use Rattle.std.proofs.lemmas.List.{append-nil}
 use Rattle.std.proofs.lemmas.Grind.{flat_map-append}
 use Rattle.std.proofs.lemmas.List.Elements.{All-nil}
@@ -14,10 +13,10 @@ use Rattle.certificate.specs.declared.refused.Refused.{Refused}
 use Rattle.certificate.specs.declared.refused.Refused.TheVariants as refused
 use Rattle.certificate.specs.declared.stage.Stage.TheVariants as stage
 use Rattle.certificate.specs.Spelling.{last_line}
-use Rattle.certificate.specs.NetworkText.{ProblemData, network_title, network_spelling}
+use Rattle.certificate.specs.NetworkText.{ProblemData, network_title}
 use Rattle.certificate.specs.Draft.{DraftData}
 use Rattle.certificate.specs.Kept.{HasRows}
-use Rattle.certificate.specs.Grammar.{Line, line_text, Kind}
+use Rattle.certificate.specs.Grammar.{Line, line_text}
 use Rattle.certificate.specs.GoodLines.{start, step, AreGoodLines}
 use Rattle.certificate.specs.NetworkRefusals.{IsProblem, problem_of, HasProblem, problem_kind, HasNetworkRefusal, IsNetworkRefusedWith, IsNetworkRefusedOnly, IsProblemOnly}
 use Rattle.certificate.specs.ProblemDraft.{problem_so_far, IsProblemWhole}

@@ -1,5 +1,5 @@
 -- The lines of a network text so far, at each stage.
-use Rattle.std.proofs.Common.{◌≡◌, ℕ, ◌<◌, ◌==◌, Bool, true, false, cond, List, [], ◌∷◌, ◌++◌, length, refl, sym, ap, subst, ◌∙◌, append_assoc, arith}
+use Rattle.std.proofs.Common.{◌≡◌, ℕ, ◌==◌, Bool, true, false, cond, List, [], ◌∷◌, ◌++◌, length, refl, sym, ap, subst, ◌∙◌, append_assoc, arith}
 use Rattle.std.specs.Prelude.{codes, nat_lt}
 use Rattle.std.specs.List.{flat_map}
 use Rattle.std.proofs.lemmas.List.{append-nil}
@@ -9,7 +9,7 @@ use Rattle.certificate.specs.declared.stage.Stage.{Stage}
 use Rattle.certificate.specs.declared.stage.Stage.TheVariants as stage
 use Rattle.certificate.specs.Spelling.{title}
 use Rattle.certificate.specs.Draft.{DraftData, text_before, text_so_far}
-use Rattle.certificate.specs.Kept.{HasSizes, HasRows, IsAtStage, IsKept}
+use Rattle.certificate.specs.Kept.{HasSizes, IsAtStage, IsKept}
 use Rattle.certificate.specs.Grammar.{Line, line_text, Kind, IsShort, HasNumber}
 use Rattle.certificate.specs.GoodLines.{start, step, AreGoodLines}
 use Rattle.certificate.specs.NetworkRefusals.{problem_row_kind, problem_kind_at, problem_kind}

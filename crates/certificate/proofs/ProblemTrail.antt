@@ -1,8 +1,8 @@
 -- The lines of a network text so far, as good lines that follow one another.
-use Rattle.std.proofs.Common.{◌≡◌, ℕ, ◌<◌, ◌≤◌, ◌==◌, Bool, true, false, cond, List, [], ◌∷◌, ◌++◌, length, refl, sym, ap, subst, ◌∙◌, append_assoc, arith}
+use Rattle.std.proofs.Common.{◌≡◌, ℕ, ◌<◌, ◌==◌, Bool, true, false, cond, List, [], ◌∷◌, ◌++◌, length, refl, sym, ap, subst, ◌∙◌, append_assoc, arith}
 use Rattle.std.specs.Prelude.{codes, map, nat_lt}
 use Rattle.std.specs.List.{flat_map}
-use Rattle.std.proofs.lemmas.Bool.{lt-ltb, le-ltb, lt-leb}
+use Rattle.std.proofs.lemmas.Bool.{lt-ltb, lt-leb}
 use Rattle.std.proofs.lemmas.List.{append-nil}
 use Rattle.std.proofs.lemmas.Grind.{flat_map-append}
 use Rattle.definitions.specs.Decimal.{number_line}
@@ -10,13 +10,12 @@ use Rattle.certificate.specs.declared.refused.Limit.TheVariants as limit
 use Rattle.certificate.specs.declared.stage.Stage.{Stage}
 use Rattle.certificate.specs.declared.stage.Stage.TheVariants as stage
 use Rattle.certificate.specs.Spelling.{title, arc_line}
-use Rattle.certificate.specs.Draft.{DraftData, text_before, text_so_far, up_to_rows}
+use Rattle.certificate.specs.Draft.{DraftData, up_to_rows}
 use Rattle.certificate.specs.NextLine.{line_at}
-use Rattle.certificate.specs.Kept.{HasSizes, HasRows, IsAtStage, IsKept}
+use Rattle.certificate.specs.Kept.{HasSizes, HasRows}
 use Rattle.certificate.specs.Grammar.{Line, line_text, Kind, kind_at, IsShort, HasNumber, IsOf}
-use Rattle.certificate.specs.LineFaults.{line_faults}
 use Rattle.certificate.specs.GoodLines.{start, step, AreGoodLines}
-use Rattle.certificate.specs.NetworkRefusals.{problem_row_kind, problem_kind_at, problem_kind}
+use Rattle.certificate.specs.NetworkRefusals.{problem_kind_at, problem_kind}
 use Rattle.certificate.specs.ProblemDraft.{IsWithinText, IsUnclaimed, HasDemandLeft}
 use Rattle.certificate.proofs.Advancing.{in_range}
 use Rattle.certificate.proofs.KindReaders.{reader_at, line_is}
@@ -119,8 +118,8 @@ rows_good d sizes rows =
               number_of Line.Destination d.destination (omega arith),
               rw (lt-leb d.nodes d.destination some) refl,
               go_on problem_kind (with_rows d [] [] [] [] []) (with_rows d d.arcs [] [] [] []) (problem_end d) (map Line.Arc d.arcs) (map Line.Demand d.demand)
-              (same_lines Line.Arc (λ x. tt) d.arcs (with_rows d [] [] [] [] []) (with_rows d d.arcs [] [] [] []) (arcs_run d sizes rows))
-              (same_lines Line.Demand (λ x. tt) d.demand (with_rows d d.arcs [] [] [] []) (problem_end d) (demand_run d sizes rows)),
+                  (same_lines Line.Arc (λ x. tt) d.arcs (with_rows d [] [] [] [] []) (with_rows d d.arcs [] [] [] []) (arcs_run d sizes rows))
+                  (same_lines Line.Demand (λ x. tt) d.demand (with_rows d d.arcs [] [] [] []) (problem_end d) (demand_run d sizes rows)),
             ),
           ),
         ),

@@ -42,7 +42,7 @@ module _ {X : Type 0} (text : X → List ℕ) where
       let up_to = flat_map text (take i xs) in
       let item = text x in
       let whole : (up_to ++ item) ++ flat_map text (drop (i + 1) xs) ≡ flat_map text xs =
-        ap (λ front. front ++ flat_map text (drop (i + 1) xs)) (ap (λ y. up_to ++ text y) is ∙ one_more xs i d lt) ∙ split_behind xs (i + 1) in
+      ap (λ front. front ++ flat_map text (drop (i + 1) xs)) (ap (λ y. up_to ++ text y) is ∙ one_more xs i d lt) ∙ split_behind xs (i + 1) in
       subst (λ bytes. Stops first f last bytes sent) whole
       (stops_within first last f (up_to ++ item) (flat_map text (drop (i + 1) xs)) sent (stops_then first mid last f g up_to item sent before here))
 

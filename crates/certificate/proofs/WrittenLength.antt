@@ -1,5 +1,5 @@
 -- The texts that are written are short: their bytes are counted in 64 bits.
-use Rattle.std.proofs.Common.{◌≡◌, append_assoc, subst, ℕ, ◌+◌, ◌*◌, ◌≤◌, List, [], ◌∷◌, ◌++◌, length, arith, length-append}
+use Rattle.std.proofs.Common.{◌≡◌, append_assoc, subst, ℕ, ◌+◌, ◌*◌, ◌≤◌, List, ◌++◌, length, arith, length-append}
 use Rattle.std.specs.Prelude.{codes}
 use Rattle.std.specs.List.{flat_map}
 use Rattle.definitions.specs.declared.limits.TheConstants.{NODE_LIMIT, ARC_LIMIT}
@@ -88,7 +88,7 @@ pub certificate_few : (nodes count k destination : ℕ) (arcs : List NetArc) (de
 certificate_few nodes count k destination arcs demand labels volumes waits sizes =
     let claim = claim_few labels volumes waits sizes.labels_within sizes.volumes_within sizes.waits_within in
     let few = problem_few 2000000000 title (claim_text labels volumes waits) nodes count k destination arcs demand (omega arith) claim
-      sizes.arcs_within sizes.demand_within in
+    sizes.arcs_within sizes.demand_within in
     omega arith
 
 -- what holds of four numbers holds of those that are the same
@@ -104,8 +104,8 @@ pub network_spelled : (p : ProblemData) →
     network_text p.network.nodes (length p.network.arcs) p.network.k p.destination p.network.arcs p.demand ≡ network_spelling p
 network_spelled p =
     joined_8 network_title (number_line (codes "nodes") p.network.nodes) (number_line (codes "arcs") (length p.network.arcs))
-      (number_line (codes "k") p.network.k) (number_line (codes "destination") p.destination) (flat_map arc_line p.network.arcs)
-      (flat_map (number_line (codes "g")) p.demand) last_line
+    (number_line (codes "k") p.network.k) (number_line (codes "destination") p.destination) (flat_map arc_line p.network.arcs)
+    (flat_map (number_line (codes "g")) p.demand) last_line
 
 joined_11 : (a b c d e f g h i j k : List ℕ) → a ++ (b ++ (c ++ (d ++ (e ++ (f ++ (g ++ (h ++ (i ++ (j ++ k))))))))) ≡ a ++ b ++ c ++ d ++ e ++ f ++ g ++ h ++ i ++ j ++ k
 joined_11 a b c d e f g h i j k = simp append_assoc
@@ -114,5 +114,5 @@ pub certificate_spelled : (c : Certificate) →
     certificate_text c.nodes (length c.arcs) c.k c.destination c.arcs c.demand c.labels c.volumes c.waits ≡ spelling c
 certificate_spelled c =
     joined_11 title (number_line (codes "nodes") c.nodes) (number_line (codes "arcs") (length c.arcs)) (number_line (codes "k") c.k)
-      (number_line (codes "destination") c.destination) (flat_map arc_line c.arcs) (flat_map (number_line (codes "g")) c.demand)
-      (flat_map (number_line (codes "u")) c.labels) (flat_map (number_line (codes "v")) c.volumes) (flat_map (number_line (codes "q")) c.waits) last_line
+    (number_line (codes "destination") c.destination) (flat_map arc_line c.arcs) (flat_map (number_line (codes "g")) c.demand)
+    (flat_map (number_line (codes "u")) c.labels) (flat_map (number_line (codes "v")) c.volumes) (flat_map (number_line (codes "q")) c.waits) last_line

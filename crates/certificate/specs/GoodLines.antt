@@ -1,5 +1,5 @@
 -- Good lines that follow one another, and the draft that they make.
-use Rattle.std.specs.Prelude.{◌≡◌, ℕ, ◌+◌, List, [], ◌∷◌, ◌++◌}
+use Rattle.std.specs.Prelude.{◌≡◌, ◌+◌, List, [], ◌∷◌, ◌++◌}
 use Rattle.certificate.specs.declared.stage.Stage.TheVariants as stage
 use Rattle.certificate.specs.Draft.{DraftData}
 use Rattle.certificate.specs.Grammar.{Line, Kind, IsOf}

@@ -10,7 +10,7 @@ use Rattle.certificate.specs.declared.stage.Stage.{Stage}
 use Rattle.certificate.specs.declared.stage.Stage.TheVariants as stage
 use Rattle.certificate.specs.NetworkText.{ProblemData, network_spelling}
 use Rattle.certificate.specs.Draft.{DraftData}
-use Rattle.certificate.specs.Grammar.{Line, line_text, Kind, kind_at}
+use Rattle.certificate.specs.Grammar.{Line, line_text, Kind}
 use Rattle.certificate.specs.LineFaults.{IsFaultOf}
 use Rattle.certificate.specs.GoodLines.{start, AreGoodLines}
 
@@ -64,6 +64,13 @@ pub record HasNetworkRefusal (bytes : List ℕ) (answer : Refused) : Type 0 wher
   pub rest : List ℕ
   pub text : flat_map line_text lines ++ rest ≡ bytes
   pub fault : IsFaultOf (problem_kind draft) draft (length (flat_map line_text lines)) rest answer
+
+-- a wrong byte, a number past its limit, or a rule of networks that is broken
+abbrev pub IsOfLine : Refused → Type 0
+IsOfLine (refused.Grammar at) = Unit {0}
+IsOfLine (refused.Range limit count) = Unit {0}
+IsOfLine (refused.Arc fault) = Unit {0}
+IsOfLine other = ⊥
 
 -- ---- what is answered
 

@@ -1,7 +1,7 @@
 //! The problem of a network text.
 
-ghost use Rattle.std.specs.Prelude.{◌≡◌, ℕ, List, IfOk, IfErr};
-ghost use Rattle.certificate.specs.NetworkRefusals.{problem_of, HasProblem, HasNetworkRefusal, IsNetworkAnswered, IsNetworkRefusedOnly, IsNetworkRefusedWith, IsProblemOnly, NeverProblemAndRefusal, OneNetworkRefusal, OneProblem};
+ghost use Rattle.std.specs.Prelude.{◌≡◌, ◌⊎◌, ℕ, List, IfOk, IfErr};
+ghost use Rattle.certificate.specs.NetworkRefusals.{problem_of, HasProblem, HasNetworkRefusal, IsNetworkAnswered, IsNetworkRefusedOnly, IsNetworkRefusedWith, IsOfLine, IsProblemOnly, NeverProblemAndRefusal, OneNetworkRefusal, OneProblem};
 
 use crate::draft::Draft;
 use crate::problem::Problem;
@@ -22,6 +22,7 @@ pub fn read_network(alloc: Global, bytes: &[u8]) -> Result<Problem, Refused>
     ensures only { IsProblemOnly bytes.now result }
     ensures refused { IfErr result (IsNetworkRefusedWith bytes.now) }
     ensures refused_only { IsNetworkRefusedOnly bytes.now result }
+    ensures of_lines { IfErr result (λ answer. (answer ≡ Refused.NoMemory) ⊎ IsOfLine answer) }
 {
     let mut draft = Draft::titled(alloc);
     match draft.network_lines(bytes) {
@@ -32,10 +33,11 @@ pub fn read_network(alloc: Global, bytes: &[u8]) -> Result<Problem, Refused>
 
 /// A text has just one answer: a problem or a refusal, never both, and of each one at most.
 ///
-/// It is a theorem about the definitions alone, as `one_answer` is of certificates.
+/// It is a theorem about the definitions alone, as `one_answer` is of certificates. No refusal that
+/// a text has is `NoMemory`.
 pub fn one_network_answer()
     ensures answered { (bytes : List ℕ) → IsNetworkAnswered bytes }
-    ensures never_memory { (bytes : List ℕ) → HasNetworkRefusal bytes Refused.NoMemory → ⊥ }
+    ensures of_lines { (bytes : List ℕ) (answer : Refused) → HasNetworkRefusal bytes answer → IsOfLine answer }
     ensures one_problem { OneProblem }
     ensures one_refusal { OneNetworkRefusal }
     ensures never_both { NeverProblemAndRefusal }

@@ -20,7 +20,7 @@ appends_on : (first mid last : Option (List ℕ)) (xs a ys b : List ℕ) (n m : 
 appends_on first mid last xs a ys b n m le rest sent then =
     let front : Appends first mid (take n (xs ++ (a ++ b))) = subst (Appends first mid) (first_on xs a b n le) sent in
     let back : Appends mid last (take m (drop n (xs ++ (a ++ b)))) =
-      subst (λ zs. Appends mid last (take m zs)) (ap (λ zs. zs ++ b) rest ∙ rest_on xs a b n le) then in
+    subst (λ zs. Appends mid last (take m zs)) (ap (λ zs. zs ++ b) rest ∙ rest_on xs a b n le) then in
     rw (take-add n m (xs ++ (a ++ b))) (appends_then first mid last (take n (xs ++ (a ++ b))) (take m (drop n (xs ++ (a ++ b)))) front back)
 
 -- how many bytes there are of what waits and a text
@@ -118,7 +118,7 @@ stops_at first last text sent within stop =
     let below : stop.count < length text = stop.within in
     let counted : sent ≡ 0 + stop.count = stop.all (omega arith) in
     let same : sent ≡ stop.count = omega arith in
-    (rw same below , rw same stop.appended)
+    (rw same below, rw same stop.appended)
 
 -- the same of a fault while the last bytes were sent
 pub stops_at_end : (first mid last : Option (List ℕ)) (f : Gathering) (text : List ℕ) (sent : ℕ) → length text ≤ 18446744073709551615 →

@@ -71,7 +71,11 @@ const RANGES: [(usize, &str, Limit, u128); 6] = [
 
 // A line with a number that breaks a rule.
 const RULES: [(usize, &str, NetFault); 4] = [
-    (4, "destination 2", NetFault::NodeOutside { arc: None, node: 2 }),
+    (
+        4,
+        "destination 2",
+        NetFault::NodeOutside { arc: None, node: 2 },
+    ),
     (
         5,
         "a 2 1 60000 7000",
@@ -163,7 +167,13 @@ const GREATEST: NetArc = NetArc {
 
 // Nodes, arcs, `k`, the destination and the demand.
 const PROBLEMS: [(u32, &[NetArc], u64, u32, &[u64]); 4] = [
-    (3, &[BOARDED, FREE], 345_600_000_000, 1, &[1, 0, 999_999_999_999_999]),
+    (
+        3,
+        &[BOARDED, FREE],
+        345_600_000_000,
+        1,
+        &[1, 0, 999_999_999_999_999],
+    ),
     (1, &[], 0, 0, &[0]),
     (1, &[GREATEST], 1, 0, &[0]),
     (2, &[GREATEST, BOARDED], 1_800_000_000, 1, &[10, 0]),
@@ -198,8 +208,13 @@ fn a_problem_is_made(rt: HostRuntime) -> Result<(), Fail> {
         demand: Units::new([0].to_vec(rt.alloc())?),
     };
     let mut out = MemorySink::new(rt.alloc(), 1000, 1000, Vec::new(rt.alloc()))?;
-    write_network(&mut out, &problem.net, problem.dest, problem.demand.as_slice())
-        .map_err(|_| "room")?;
+    write_network(
+        &mut out,
+        &problem.net,
+        problem.dest,
+        problem.demand.as_slice(),
+    )
+    .map_err(|_| "room")?;
     let text = b"assignment-network 1\nnodes 1\narcs 0\nk 0\ndestination 0\ng 0\nend\n";
     assert_eq!(rt; out.bytes(), text.as_slice());
     Ok(())

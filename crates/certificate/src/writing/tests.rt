@@ -59,8 +59,11 @@ fn network(alloc: Global) -> Result<Network, NetFault> {
 }
 
 const DEMAND: [u64; 3] = [1, 0, 999_999_999_999_999];
+
 const LABELS: [u64; 3] = [9_223_372_036_854_775_807, 0, 10];
+
 const VOLUMES: [u64; 2] = [1_000_000_000_000_000, 0];
+
 const WAITS: [u128; 3] = [1_000_000_000_000_000_000_000_000_000, 0, 7];
 
 // Writes of at most 10 bytes into so much room: the answer, and that what was written is the text

@@ -1,6 +1,7 @@
 use Rattle.std.proofs.Common.{Err, refl}
 use Rattle.certificate.specs.ProblemDraft.{problem_so_far}
 use Rattle.certificate.proofs.OneProblem.{only_refused, refused_only}
+use Rattle.certificate.proofs.OfLines.{memory_alone, answers_of_lines}
 use Rattle.certificate.proofs.NetworkAnswers.{valid_is, only_is, refused_only_is, with_refusal}
 use Rattle.certificate.proofs.network_reading.read_network.Goals as goal
 
@@ -20,3 +21,9 @@ returns-in-Err-clause-only c =
 pub returns-in-Err-clause-refused_only : goal.returns-in-Err-clause-refused_only
 returns-in-Err-clause-refused_only c =
     refused_only (Err c.refusal.result) c.args.bytes.now c.refusal.result (with_refusal c.args.bytes.now c.in-Err.fault c.refusal.result c.in-Err.ensures.fault c.refusal.ensures.value) refl
+
+pub returns-in-Ok-clause-of_lines : goal.returns-in-Ok-clause-of_lines
+returns-in-Ok-clause-of_lines c = memory_alone c.into_problem.result c.into_problem.ensures.err
+
+pub returns-in-Err-clause-of_lines : goal.returns-in-Err-clause-of_lines
+returns-in-Err-clause-of_lines c = answers_of_lines (Err c.refusal.result) c.args.bytes.now (with_refusal c.args.bytes.now c.in-Err.fault c.refusal.result c.in-Err.ensures.fault c.refusal.ensures.value)

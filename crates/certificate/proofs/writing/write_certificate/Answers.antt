@@ -1,4 +1,4 @@
-use Rattle.std.proofs.Common.{◌≡◌, ◌<◌, ◌∙◌, refl, subst, arith, List, ℕ, length, take}
+use Rattle.std.proofs.Common.{◌<◌, ◌∙◌, subst, arith, length, take}
 use Rattle.std.specs.Prelude.{OnOk, IfErr}
 use Rattle.desk_io.specs.Told.{Appends}
 use Rattle.certificate.specs.Spelling.{certificate_of}
@@ -21,26 +21,26 @@ returns-clause-ok g c =
     subst (λ text. OnOk c.write_text.result (Appends (g.S.Sink.written c.args.out.now) (g.S.Sink.written c.write_text.new.out) text))
     (certificate_spelled (certificate_of c.args.net.now c.args.dest c.args.g.now c.args.u.now c.args.v.now c.args.q.now))
     (same_numbers
-      (λ nodes count k destination. OnOk c.write_text.result (Appends (g.S.Sink.written c.args.out.now) (g.S.Sink.written c.write_text.new.out)
-        (certificate_text nodes count k destination c.args.net.now.arcs c.args.g.now c.args.u.now c.args.v.now c.args.q.now)))
-      _ _ _ _ _ _ _ _ (c.from.ensures ∙ c.nodes.ensures.value) (c.from-2.ensures ∙ c.arcs.ensures.value) (c.from-3.ensures ∙ c.k.ensures.value) c.from-4.ensures
-      c.write_text.ensures.ok)
+    (λ nodes count k destination. OnOk c.write_text.result (Appends (g.S.Sink.written c.args.out.now) (g.S.Sink.written c.write_text.new.out)
+    (certificate_text nodes count k destination c.args.net.now.arcs c.args.g.now c.args.u.now c.args.v.now c.args.q.now)))
+    _ _ _ _ _ _ _ _ (c.from.ensures ∙ c.nodes.ensures.value) (c.from-2.ensures ∙ c.arcs.ensures.value) (c.from-3.ensures ∙ c.k.ensures.value) c.from-4.ensures
+    c.write_text.ensures.ok)
 
 pub returns-clause-err : goal.returns-clause-err
 returns-clause-err g c =
     subst (λ text. IfErr c.write_text.result (λ fault. Appends (g.S.Sink.written c.args.out.now) (g.S.Sink.written c.write_text.new.out) (take fault.sent text)))
     (certificate_spelled (certificate_of c.args.net.now c.args.dest c.args.g.now c.args.u.now c.args.v.now c.args.q.now))
     (same_numbers
-      (λ nodes count k destination. IfErr c.write_text.result (λ fault. Appends (g.S.Sink.written c.args.out.now) (g.S.Sink.written c.write_text.new.out)
-        (take fault.sent (certificate_text nodes count k destination c.args.net.now.arcs c.args.g.now c.args.u.now c.args.v.now c.args.q.now))))
-      _ _ _ _ _ _ _ _ (c.from.ensures ∙ c.nodes.ensures.value) (c.from-2.ensures ∙ c.arcs.ensures.value) (c.from-3.ensures ∙ c.k.ensures.value) c.from-4.ensures
-      c.write_text.ensures.err)
+    (λ nodes count k destination. IfErr c.write_text.result (λ fault. Appends (g.S.Sink.written c.args.out.now) (g.S.Sink.written c.write_text.new.out)
+    (take fault.sent (certificate_text nodes count k destination c.args.net.now.arcs c.args.g.now c.args.u.now c.args.v.now c.args.q.now))))
+    _ _ _ _ _ _ _ _ (c.from.ensures ∙ c.nodes.ensures.value) (c.from-2.ensures ∙ c.arcs.ensures.value) (c.from-3.ensures ∙ c.k.ensures.value) c.from-4.ensures
+    c.write_text.ensures.err)
 
 pub returns-clause-sent : goal.returns-clause-sent
 returns-clause-sent g c =
     subst (λ text. IfErr c.write_text.result (λ fault. fault.sent < length text))
     (certificate_spelled (certificate_of c.args.net.now c.args.dest c.args.g.now c.args.u.now c.args.v.now c.args.q.now))
     (same_numbers
-      (λ nodes count k destination. IfErr c.write_text.result (λ fault. fault.sent < length (certificate_text nodes count k destination c.args.net.now.arcs c.args.g.now c.args.u.now c.args.v.now c.args.q.now)))
-      _ _ _ _ _ _ _ _ (c.from.ensures ∙ c.nodes.ensures.value) (c.from-2.ensures ∙ c.arcs.ensures.value) (c.from-3.ensures ∙ c.k.ensures.value) c.from-4.ensures
-      c.write_text.ensures.sent)
+    (λ nodes count k destination. IfErr c.write_text.result (λ fault. fault.sent < length (certificate_text nodes count k destination c.args.net.now.arcs c.args.g.now c.args.u.now c.args.v.now c.args.q.now)))
+    _ _ _ _ _ _ _ _ (c.from.ensures ∙ c.nodes.ensures.value) (c.from-2.ensures ∙ c.arcs.ensures.value) (c.from-3.ensures ∙ c.k.ensures.value) c.from-4.ensures
+    c.write_text.ensures.sent)

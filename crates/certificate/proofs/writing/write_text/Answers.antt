@@ -12,10 +12,10 @@ pub returns-clause-err : goal.returns-clause-err
 returns-clause-err g c =
     second_part c.flush.result _ _
     (ends_within c.flush.result _ _ _ c.new-text.result _ (flat_map part_text c.args.parts.now) c.new-text.ensures.value c.requires.short
-      c.in_ok-write_parts.ensures.ok c.flush.ensures.err)
+    c.in_ok-write_parts.ensures.ok c.flush.ensures.err)
 
 pub returns-clause-sent : goal.returns-clause-sent
 returns-clause-sent g c =
     first_part c.flush.result _ _
     (ends_within c.flush.result _ _ _ c.new-text.result _ (flat_map part_text c.args.parts.now) c.new-text.ensures.value c.requires.short
-      c.in_ok-write_parts.ensures.ok c.flush.ensures.err)
+    c.in_ok-write_parts.ensures.ok c.flush.ensures.err)

@@ -1,7 +1,7 @@
 //! The greatest number of each limit: it is read, and the answer is about something else.
 
-use crate::checking::{Verdict, check_text};
 use super::{ONE_LINE, text_with};
+use crate::checking::{Verdict, check_text};
 use crate::refused::{Limit, Refused};
 use lp_model::NetFault;
 use std::test::Fail;
@@ -98,7 +98,8 @@ fn the_greatest_numbers_are_read(rt: HostRuntime) -> Result<(), Fail> {
 // The demand of two nodes adds up to one above the limit of units.
 #[test]
 fn units_are_summed(rt: HostRuntime) -> Result<(), Fail> {
-    let text = b"assignment-certificate 1\nnodes 3\narcs 0\nk 0\ndestination 2\ng 1\ng 1000000000000000\n";
+    let text =
+        b"assignment-certificate 1\nnodes 3\narcs 0\nk 0\ndestination 2\ng 1\ng 1000000000000000\n";
     let refused = Refused::Range {
         limit: Limit::Units,
         count: 1_000_000_000_000_001,
