@@ -52,6 +52,7 @@ none_of_arc (net_fault.NoMemory ∷ faults) at said = cc
 
 no_wrong_byte : (d : DraftData) (line : Line) (at : ℕ) → slice_get (line_faults d line) 0 ≡ Some (refused.Grammar at) → ⊥
 no_wrong_byte d Line.Title at said = cc
+no_wrong_byte d Line.NetworkTitle at said = cc
 no_wrong_byte d (Line.Nodes n) at said = none_past limit.Nodes n at said
 no_wrong_byte d (Line.Arcs n) at said = none_past limit.Arcs n at said
 no_wrong_byte d (Line.K n) at said = none_past limit.K n at said

@@ -17,12 +17,9 @@ use Rattle.certificate.specs.Grammar.{Line, line_text, Kind, IsShort, HasNumber}
 use Rattle.certificate.proofs.Advancing.{next_of, in_range}
 use Rattle.certificate.proofs.NextLines.{kind_end}
 use Rattle.certificate.proofs.FrontRows.{IsFull, full_of}
-use Rattle.certificate.proofs.Trails.{step, Runs, run_on, row_texts}
+use Rattle.certificate.specs.GoodLines.{start, step}
+use Rattle.certificate.proofs.Trails.{Runs, run_on, row_texts}
 use Rattle.certificate.proofs.TrailRows.{with_rows, row_lines, rows_run}
-
--- a draft of which nothing is read
-abbrev pub start : DraftData
-start = record { stage = stage.Title; nodes = 0; arc_count = 0; k = 0; destination = 0; units = 0; arcs = []; demand = []; labels = []; volumes = []; waits = [] }
 
 -- the lines so far, one after the other
 pub record HasTrail (d : DraftData) : Type 0 where

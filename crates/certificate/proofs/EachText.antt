@@ -25,14 +25,14 @@ use Rattle.certificate.proofs.ExactJudged.{kind_judged}
 use Rattle.certificate.proofs.LineStops.{units_at, some_kind, line_fault}
 use Rattle.certificate.proofs.FrontRows.{full_of}
 use Rattle.certificate.proofs.Verdicts.{valid_of}
-use Rattle.certificate.proofs.Trails.{step}
+use Rattle.certificate.specs.GoodLines.{step}
 use Rattle.certificate.proofs.Taking.{IsTaken, take_header}
 use Rattle.certificate.proofs.TakingLast.{take_row}
 use Rattle.certificate.proofs.Decided.{decided}
 
 -- ---- the next line
 
-take : (s : Stage) (d : DraftData) (line : Line) (rest : List ℕ) → d.stage ≡ s → IsKept d → IsNext d line → line_faults d line ≡ [] → IsTaken d line rest
+pub take : (s : Stage) (d : DraftData) (line : Line) (rest : List ℕ) → d.stage ≡ s → IsKept d → IsNext d line → line_faults d line ≡ [] → IsTaken d line rest
 take stage.Title d line rest e kept next none = take_header stage.Title d line rest e kept (subst (λ s. IsOf (kind_at s d) line) e next) none (λ no. cc)
 take stage.Nodes d line rest e kept next none = take_header stage.Nodes d line rest e kept (subst (λ s. IsOf (kind_at s d) line) e next) none (λ no. cc)
 take stage.Arcs d line rest e kept next none = take_header stage.Arcs d line rest e kept (subst (λ s. IsOf (kind_at s d) line) e next) none (λ no. cc)
@@ -42,13 +42,13 @@ take stage.Rows d line rest e kept next none = take_row d line rest e kept next 
 take stage.Done d line rest e kept next none = take_header stage.Done d line rest e kept (subst (λ s. IsOf (kind_at s d) line) e next) none (λ no. cc)
 
 -- a line that was read
-record IsRead (d : DraftData) (bytes rest : List ℕ) : Type 0 where
-  line : Line
-  next : IsNext d line
-  good : line_faults d line ≡ []
-  text : line_text line ++ rest ≡ bytes
+pub record IsRead (d : DraftData) (bytes rest : List ℕ) : Type 0 where
+  pub line : Line
+  pub next : IsNext d line
+  pub good : line_faults d line ≡ []
+  pub text : line_text line ++ rest ≡ bytes
 
-line_read : (d : DraftData) (bytes rest : List ℕ) → IsKept d → line_at d bytes ≡ Ok rest → IsRead d bytes rest
+pub line_read : (d : DraftData) (bytes rest : List ℕ) → IsKept d → line_at d bytes ≡ Ok rest → IsRead d bytes rest
 line_read d bytes rest kept e = elim (some_kind d.stage d) [
   | inl done ↦ absurd (let no : line_of stage.Done d bytes ≡ Ok rest = subst (λ s. line_of s d bytes ≡ Ok rest) done e in cc)
   | inr some ↦ by some (shape_at (kind_at d.stage d) bytes) refl

@@ -20,6 +20,7 @@ use Rattle.certificate.specs.Bytes.{◌>>=◌, literal_at}
 use Rattle.certificate.specs.Limits.{greatest}
 use Rattle.certificate.specs.Lines.{word_at, wide_arc_at, unless, fault_of}
 use Rattle.certificate.specs.Spelling.{title, last_line}
+use Rattle.certificate.specs.NetworkText.{network_title}
 use Rattle.certificate.specs.Draft.{DraftData, network_so_far}
 use Rattle.certificate.specs.Grammar.{Line, Kind}
 use Rattle.certificate.specs.LineFaults.{refused_if, range_faults, arc_refusal, line_faults}
@@ -154,6 +155,7 @@ pub record HasUnits (d : DraftData) : Type 0 where
 
 pub kind_judged : (kind : Kind) (d : DraftData) → HasUnits d → IsJudged d (shape_at kind) (reader_at kind d)
 kind_judged Kind.Title d u = literal_judged d Line.Title title (reader_at Kind.Title d) refl (λ bytes. refl)
+kind_judged Kind.NetworkTitle d u = literal_judged d Line.NetworkTitle network_title (reader_at Kind.NetworkTitle d) refl (λ bytes. refl)
 kind_judged Kind.Nodes d u = number_judged d Line.Nodes (codes "nodes") (λ n. nat_le n (greatest limit.Nodes)) (fault.Range limit.Nodes) (λ n. range_agrees limit.Nodes _ n refl)
 kind_judged Kind.Arcs d u = number_judged d Line.Arcs (codes "arcs") (λ n. nat_le n (greatest limit.Arcs)) (fault.Range limit.Arcs) (λ n. range_agrees limit.Arcs _ n refl)
 kind_judged Kind.K d u = number_judged d Line.K (codes "k") (λ n. nat_le n (greatest limit.K)) (fault.Range limit.K) (λ n. range_agrees limit.K _ n refl)

@@ -10,6 +10,7 @@ use Rattle.certificate.specs.declared.fault.Fault.TheVariants as fault
 use Rattle.certificate.specs.Bytes.{◌>>=◌, byte_at, literal_at, number_at}
 use Rattle.certificate.specs.Lines.{word_at}
 use Rattle.certificate.specs.Spelling.{title, last_line}
+use Rattle.certificate.specs.NetworkText.{network_title}
 use Rattle.certificate.specs.Grammar.{Line, line_text, Kind, IsShort, HasNumber, IsOf}
 use Rattle.certificate.proofs.Exact.{IsExact, same_text, value_exact, after_byte, after_literal}
 use Rattle.certificate.proofs.ExactNext.{next_exact}
@@ -57,6 +58,7 @@ literal_shape_exact line text texts =
 -- the reading of a line of a kind, whatever its numbers
 abbrev pub shape_at : Kind → List ℕ → Result (Line × List ℕ) Fault
 shape_at Kind.Title = literal_shape Line.Title title
+shape_at Kind.NetworkTitle = literal_shape Line.NetworkTitle network_title
 shape_at Kind.Nodes = number_shape Line.Nodes (codes "nodes")
 shape_at Kind.Arcs = number_shape Line.Arcs (codes "arcs")
 shape_at Kind.K = number_shape Line.K (codes "k")
@@ -72,6 +74,7 @@ shape_at Kind.Nothing = λ bytes. Err (fault.Stop (length bytes))
 
 pub shape_exact : (kind : Kind) → (kind ≡ Kind.Nothing → ⊥) → IsExact (shape_at kind) line_text (IsOf kind)
 shape_exact Kind.Title some = literal_shape_exact Line.Title title refl
+shape_exact Kind.NetworkTitle some = literal_shape_exact Line.NetworkTitle network_title refl
 shape_exact Kind.Nodes some = number_shape_exact Line.Nodes (codes "nodes") (λ n. refl)
 shape_exact Kind.Arcs some = number_shape_exact Line.Arcs (codes "arcs") (λ n. refl)
 shape_exact Kind.K some = number_shape_exact Line.K (codes "k") (λ n. refl)

@@ -29,10 +29,14 @@ faultless d sizes rows =
     ) refl
 
 -- so only memory can be refused
+pub memory_alone : (d : DraftData) (f : NetFault) → HasSizes d → HasRows d → ((f ≡ net_fault.NoMemory) ⊎ (first_fault (network_so_far d) ≡ Some f)) → f ≡ net_fault.NoMemory
+memory_alone d f sizes rows (inl memory) = memory
+memory_alone d f sizes rows (inr fault) =
+    let none : first_fault (network_so_far d) ≡ None = ap (λ fs. slice_get fs 0) (faultless d sizes rows) in
+    absurd (let e : Some f ≡ None = sym fault ∙ none in cc)
+
 pub only_memory : (d : DraftData) (f : NetFault) → d.stage ≡ stage.Done → HasSizes d → IsAtStage d.stage d →
     ((f ≡ net_fault.NoMemory) ⊎ (first_fault (network_so_far d) ≡ Some f)) → f ≡ net_fault.NoMemory
-only_memory d f done sizes at_stage (inl memory) = memory
-only_memory d f done sizes at_stage (inr fault) =
+only_memory d f done sizes at_stage why =
     let whole : IsWhole d = subst (λ s. IsAtStage s d) done at_stage in
-    let none : first_fault (network_so_far d) ≡ None = ap (λ fs. slice_get fs 0) (faultless d sizes whole.rows) in
-    absurd (let e : Some f ≡ None = sym fault ∙ none in cc)
+    memory_alone d f sizes whole.rows why

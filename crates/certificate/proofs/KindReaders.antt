@@ -10,12 +10,14 @@ use Rattle.certificate.specs.declared.stage.Stage.TheVariants as stage
 use Rattle.certificate.specs.Bytes.{literal_at}
 use Rattle.certificate.specs.Lines.{number_line_at, destination_line_at, demand_line_at, arc_line_at}
 use Rattle.certificate.specs.Spelling.{title, last_line}
+use Rattle.certificate.specs.NetworkText.{network_title}
 use Rattle.certificate.specs.Draft.{DraftData, network_so_far}
 use Rattle.certificate.specs.NextLine.{rest_of, row_at, line_of}
 use Rattle.certificate.specs.Grammar.{Kind, row_kind, kind_at}
 
 abbrev pub reader_at : Kind → DraftData → List ℕ → Result (List ℕ) Fault
 reader_at Kind.Title d bytes = literal_at title bytes
+reader_at Kind.NetworkTitle d bytes = literal_at network_title bytes
 reader_at Kind.Nodes d bytes = rest_of (number_line_at (codes "nodes") limit.Nodes bytes)
 reader_at Kind.Arcs d bytes = rest_of (number_line_at (codes "arcs") limit.Arcs bytes)
 reader_at Kind.K d bytes = rest_of (number_line_at (codes "k") limit.K bytes)

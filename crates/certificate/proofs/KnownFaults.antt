@@ -28,7 +28,7 @@ unfolding word_at number_at
 after_zero other = (fault.Stop (length (51 ∷ other)), refl)
 
 -- where a label comes next, `u 0317142` goes wrong with its fourth byte
-leading_zero : (d : DraftData) → kind_at d.stage d ≡ Kind.Label → HasWrongByte d (codes "u 0317142" ++ line_end) (refused.Grammar (length (text_so_far d) + 3))
+leading_zero : (d : DraftData) → kind_at d.stage d ≡ Kind.Label → HasWrongByte (kind_at d.stage d) (length (text_so_far d)) (codes "u 0317142" ++ line_end) (refused.Grammar (length (text_so_far d) + 3))
 leading_zero d label = record {
   before = codes "u 0";
   after = codes "317142" ++ line_end;
@@ -40,13 +40,13 @@ leading_zero d label = record {
     text = ap (λ digits. codes "u " ++ (digits ++ line_end)) (sym zero_is);
     more = omega arith;
   };
-  stops = no_beginning d (subst (λ kind. IsExact (shape_at kind) line_text (IsOf kind)) (sym label) (shape_exact Kind.Label (λ e. cc))) (codes "u 0") (codes "317142" ++ line_end)
+  stops = no_beginning (kind_at d.stage d) (subst (λ kind. IsExact (shape_at kind) line_text (IsOf kind)) (sym label) (shape_exact Kind.Label (λ e. cc))) (codes "u 0") (codes "317142" ++ line_end)
       (λ byte left other h. subst (λ kind. IsErr (shape_at kind (codes "u 0" ++ byte ∷ other))) (sym label) (subst (λ b. IsErr (shape_at Kind.Label (codes "u 0" ++ b ∷ other))) (let same : 51 ≡ byte = cc in same) (after_zero other)));
   says = refl;
 }
 
 -- where the demand of the destination comes next, `g 1` goes wrong with its third byte
-demand_at_destination : (d : DraftData) → kind_at d.stage d ≡ Kind.NoDemand → HasWrongByte d (codes "g 1" ++ line_end) (refused.Grammar (length (text_so_far d) + 2))
+demand_at_destination : (d : DraftData) → kind_at d.stage d ≡ Kind.NoDemand → HasWrongByte (kind_at d.stage d) (length (text_so_far d)) (codes "g 1" ++ line_end) (refused.Grammar (length (text_so_far d) + 2))
 demand_at_destination d none = record {
   before = codes "g ";
   after = codes "1" ++ line_end;
@@ -58,7 +58,7 @@ demand_at_destination d none = record {
     text = ap (λ digits. codes "g " ++ (digits ++ line_end)) (sym zero_is);
     more = omega arith;
   };
-  stops = no_beginning d (subst (λ kind. IsExact (shape_at kind) line_text (IsOf kind)) (sym none) (shape_exact Kind.NoDemand (λ e. cc))) (codes "g ") (codes "1" ++ line_end)
+  stops = no_beginning (kind_at d.stage d) (subst (λ kind. IsExact (shape_at kind) line_text (IsOf kind)) (sym none) (shape_exact Kind.NoDemand (λ e. cc))) (codes "g ") (codes "1" ++ line_end)
       (λ byte left other h. subst (λ kind. IsErr (shape_at kind (codes "g " ++ byte ∷ other))) (sym none) (subst (λ b. IsErr (shape_at Kind.NoDemand (codes "g " ++ b ∷ other))) (let same : 49 ≡ byte = cc in same) (fault.Stop (length (49 ∷ other)), refl)));
   says = refl;
 }

@@ -13,6 +13,13 @@ pub mod FaultsRead
 pub mod Trails
 pub mod TrailRows
 pub mod DraftTrail
+pub mod ProblemLines
+pub mod ProblemTrail
+pub mod ProblemStages
+pub mod NetworkStops
+pub mod OneProblem
+pub mod OfLines
+pub mod NetworkAnswers
 pub mod OneFault
 pub mod OneRefusal
 pub mod ArcsLine
@@ -21,6 +28,7 @@ pub mod TakingRows
 pub mod TakingLast
 pub mod Decided
 pub mod EachText
+pub mod EachNetwork
 pub mod NeverMemory
 pub mod Growth
 pub mod Keeping

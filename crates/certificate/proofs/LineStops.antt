@@ -9,10 +9,10 @@ use Rattle.certificate.specs.declared.refused.Refused.TheVariants as refused
 use Rattle.certificate.specs.declared.stage.Stage.{Stage}
 use Rattle.certificate.specs.declared.stage.Stage.TheVariants as stage
 use Rattle.certificate.specs.Draft.{DraftData, text_so_far}
-use Rattle.certificate.specs.NextLine.{line_of, line_at}
+use Rattle.certificate.specs.NextLine.{line_at}
 use Rattle.certificate.specs.Kept.{HasNoRows, IsAtStage, IsKept}
 use Rattle.certificate.specs.Grammar.{Line, line_text, Kind, row_kind, kind_at, IsOf, IsNext}
-use Rattle.certificate.specs.LineFaults.{line_faults, StopsAfter, IsLineFault}
+use Rattle.certificate.specs.LineFaults.{line_faults, StopsAfter, IsFaultOf, IsLineFault}
 use Rattle.certificate.specs.Stops.{refusal_of, StopsWith}
 use Rattle.certificate.specs.Refusals.{HasFaultyLine}
 use Rattle.certificate.proofs.Readers.{done, failed}
@@ -57,55 +57,81 @@ some_kind stage.Destination d = inr (λ e. cc)
 some_kind stage.Rows d = inr (row_some d)
 some_kind stage.Done d = inl refl
 
+-- something may come, or nothing
+pub some_or_none : (kind : Kind) → (kind ≡ Kind.Nothing) ⊎ (kind ≡ Kind.Nothing → ⊥)
+some_or_none Kind.Title = inr (λ e. cc)
+some_or_none Kind.NetworkTitle = inr (λ e. cc)
+some_or_none Kind.Nodes = inr (λ e. cc)
+some_or_none Kind.Arcs = inr (λ e. cc)
+some_or_none Kind.K = inr (λ e. cc)
+some_or_none Kind.Destination = inr (λ e. cc)
+some_or_none Kind.Arc = inr (λ e. cc)
+some_or_none Kind.Demand = inr (λ e. cc)
+some_or_none Kind.NoDemand = inr (λ e. cc)
+some_or_none Kind.Label = inr (λ e. cc)
+some_or_none Kind.Volume = inr (λ e. cc)
+some_or_none Kind.Wait = inr (λ e. cc)
+some_or_none Kind.End = inr (λ e. cc)
+some_or_none Kind.Nothing = inl refl
+
+-- where nothing may come the last line is read
+pub done_of : (d : DraftData) → kind_at d.stage d ≡ Kind.Nothing → d.stage ≡ stage.Done
+done_of d none = elim (some_kind d.stage d) [ inl done ↦ done | inr some ↦ absurd (some none) ]
+
 -- ---- what is no beginning
 
-pub no_beginning : (d : DraftData) → IsExact (shape_at (kind_at d.stage d)) line_text (IsNext d) → (before after : List ℕ) →
-    ((byte : ℕ) (left other : List ℕ) → after ≡ byte ∷ left → IsErr (shape_at (kind_at d.stage d) (before ++ byte ∷ other))) → StopsAfter d before after
-no_beginning d exact before [] local = tt
-no_beginning d exact before (byte ∷ left) local = λ line next rest e.
-    let shape : List ℕ → Result (Line × List ℕ) Fault = shape_at (kind_at d.stage d) in
+pub no_beginning : (kind : Kind) → IsExact (shape_at kind) line_text (IsOf kind) → (before after : List ℕ) →
+    ((byte : ℕ) (left other : List ℕ) → after ≡ byte ∷ left → IsErr (shape_at kind (before ++ byte ∷ other))) → StopsAfter kind before after
+no_beginning kind exact before [] local = tt
+no_beginning kind exact before (byte ∷ left) local = λ line next rest e.
     let whole : before ++ byte ∷ rest ≡ line_text line ++ [] = sym (append_assoc before (byte ∷ []) rest) ∙ e ∙ sym (append-nil (line_text line)) in
-    let read : shape (before ++ byte ∷ rest) ≡ Ok (line, []) = ap shape whole ∙ exact.again line [] next in
+    let read : shape_at kind (before ++ byte ∷ rest) ≡ Ok (line, []) = ap (shape_at kind) whole ∙ exact.again line [] next in
     let stops = local byte left rest refl in
     let both : failed {A = Line × List ℕ} stops.0 ≡ done (line, []) = sym stops.1 ∙ read in
     cc
 
 -- ---- where the reading of a line stops
 
-pub line_fault : (d : DraftData) (bytes : List ℕ) (f : Fault) (size : ℕ) → IsKept d → (d.stage ≡ stage.Done → 0 < length bytes) → line_at d bytes ≡ Err f → length (text_so_far d) + length bytes ≡ size →
-    IsLineFault d bytes (refusal_of size f)
-line_fault d bytes f size kept more e long = elim (some_kind d.stage d) [
-  | inl done ↦ (
-      let here : line_at d bytes ≡ Err (fault.Stop (length bytes)) = ap (λ s. line_of s d bytes) done in
+-- where one of a kind may come after lines of `place` bytes, in a text of `size` bytes
+pub kind_fault : (kind : Kind) (d : DraftData) (bytes : List ℕ) (f : Fault) (place size : ℕ) → HasUnits d → (kind ≡ Kind.Nothing → 0 < length bytes) → reader_at kind d bytes ≡ Err f →
+    place + length bytes ≡ size → IsFaultOf kind d place bytes (refusal_of size f)
+kind_fault kind d bytes f place size units more e long = elim (some_or_none kind) [
+  | inl none ↦ (
+      let here : reader_at kind d bytes ≡ Err (fault.Stop (length bytes)) = ap (λ k. reader_at k d bytes) none in
       let same : f ≡ fault.Stop (length bytes) = (let k : Err f ≡ Err (fault.Stop (length bytes)) = sym e ∙ here in cc) in
-      let place : size - length bytes ≡ length (text_so_far d) = omega arith in
-      inr (inr (record { done = done; more = more done; says = ap (refusal_of size) same ∙ ap refused.Grammar place })))
-  | inr some ↦ judged some (shape_at (kind_at d.stage d) bytes) refl
+      let here : size - length bytes ≡ place = omega arith in
+      inr (inr (record { done = none; more = more none; says = ap (refusal_of size) same ∙ ap refused.Grammar here })))
+  | inr some ↦ judged some (shape_at kind bytes) refl
 ]
   where
-    judged : (kind_at d.stage d ≡ Kind.Nothing → ⊥) → (r : Result (Line × List ℕ) Fault) → shape_at (kind_at d.stage d) bytes ≡ r → IsLineFault d bytes (refusal_of size f)
-    judged some (Ok p) h = elim ((kind_judged (kind_at d.stage d) d (units_at d.stage d kept.rows)).right bytes p.0 p.1 h) [
-      | inl w ↦ absurd (let k : Err f ≡ Ok p.1 = sym e ∙ line_is d.stage d bytes ∙ w.1 in cc)
+    judged : (kind ≡ Kind.Nothing → ⊥) → (r : Result (Line × List ℕ) Fault) → shape_at kind bytes ≡ r → IsFaultOf kind d place bytes (refusal_of size f)
+    judged some (Ok p) h = elim ((kind_judged kind d units).right bytes p.0 p.1 h) [
+      | inl w ↦ absurd (let k : Err f ≡ Ok p.1 = sym e ∙ w.1 in cc)
       | inr w ↦ (
-          let t = (shape_exact (kind_at d.stage d) some).takes bytes p.0 p.1 h in
-          let same : w.0 ≡ f = (let k : Err w.0 ≡ Err f = sym w.1 ∙ sym (line_is d.stage d bytes) ∙ e in cc) in
+          let t = (shape_exact kind some).takes bytes p.0 p.1 h in
+          let same : w.0 ≡ f = (let k : Err w.0 ≡ Err f = sym w.1 ∙ e in cc) in
           inr (inl (record { line = p.0; next = t.1; rest = p.1; text = t.0; first = w.2 size ∙ ap (λ g. Some (refusal_of size g)) same })))
     ]
     judged some (Err g) h =
-        let exact = shape_exact (kind_at d.stage d) some in
+        let exact = shape_exact kind some in
         let s = exact.stops bytes g h in
-        let stopped : reader_at (kind_at d.stage d) d bytes ≡ Err g = (kind_judged (kind_at d.stage d) d (units_at d.stage d kept.rows)).wrong bytes g h in
-        let same : f ≡ g = (let k : Err f ≡ Err g = sym e ∙ line_is d.stage d bytes ∙ stopped in cc) in
+        let stopped : reader_at kind d bytes ≡ Err g = (kind_judged kind d units).wrong bytes g h in
+        let same : f ≡ g = (let k : Err f ≡ Err g = sym e ∙ stopped in cc) in
         let parts : length s.before + length s.after ≡ length bytes = sym (length-append s.before s.after) ∙ ap length s.parts in
-        let place : size - length s.after ≡ length (text_so_far d) + length s.before = omega arith in
+        let here : size - length s.after ≡ place + length s.before = omega arith in
         inl (record {
           before = s.before;
           after = s.after;
           text = s.parts;
           within = record { line = s.value; next = s.fits; rest = s.rest; text = s.whole; more = s.more };
-          stops = no_beginning d exact s.before s.after s.local;
-          says = ap (refusal_of size) (same ∙ s.says) ∙ ap refused.Grammar place;
+          stops = no_beginning kind exact s.before s.after s.local;
+          says = ap (refusal_of size) (same ∙ s.says) ∙ ap refused.Grammar here;
         })
+
+pub line_fault : (d : DraftData) (bytes : List ℕ) (f : Fault) (size : ℕ) → IsKept d → (d.stage ≡ stage.Done → 0 < length bytes) → line_at d bytes ≡ Err f → length (text_so_far d) + length bytes ≡ size →
+    IsLineFault d bytes (refusal_of size f)
+line_fault d bytes f size kept more e long =
+    kind_fault (kind_at d.stage d) d bytes f (length (text_so_far d)) size (units_at d.stage d kept.rows) (λ none. more (done_of d none)) (sym (line_is d.stage d bytes) ∙ e) long
 
 -- so a text whose reading stops has a faulty line
 pub faulty_line : (bytes : List ℕ) (answer : Refused) → StopsWith bytes answer → HasFaultyLine bytes answer
@@ -123,17 +149,21 @@ pub none_said : (faults : List Refused) (answer : Refused) → faults ≡ [] →
 none_said [] answer none said = cc
 none_said (f ∷ fs) answer none said = cc
 
--- a line that may come next and has no fault is read
-pub good_read : (d : DraftData) (line : Line) (rest : List ℕ) → HasUnits d → IsNext d line → line_faults d line ≡ [] → line_at d (line_text line ++ rest) ≡ Ok rest
-good_read d line rest units next none = elim (some_kind d.stage d) [
-  | inl done ↦ absurd (subst (λ s. IsOf (kind_at s d) line) done next)
+-- a line of a kind that has no fault is read
+pub good_kind : (kind : Kind) (d : DraftData) (line : Line) (rest : List ℕ) → HasUnits d → IsOf kind line → line_faults d line ≡ [] → reader_at kind d (line_text line ++ rest) ≡ Ok rest
+good_kind kind d line rest units next none = elim (some_or_none kind) [
+  | inl nothing ↦ absurd (subst (λ k. IsOf k line) nothing next)
   | inr some ↦ (
-      let shape : shape_at (kind_at d.stage d) (line_text line ++ rest) ≡ Ok (line, rest) = (shape_exact (kind_at d.stage d) some).again line rest next in
-      elim ((kind_judged (kind_at d.stage d) d units).right (line_text line ++ rest) line rest shape) [
-        | inl w ↦ line_is d.stage d (line_text line ++ rest) ∙ w.1
+      let shape : shape_at kind (line_text line ++ rest) ≡ Ok (line, rest) = (shape_exact kind some).again line rest next in
+      elim ((kind_judged kind d units).right (line_text line ++ rest) line rest shape) [
+        | inl w ↦ w.1
         | inr w ↦ absurd (none_said (line_faults d line) (refusal_of 0 w.0) none (w.2 0))
       ])
 ]
+
+-- so is one that may come next
+pub good_read : (d : DraftData) (line : Line) (rest : List ℕ) → HasUnits d → IsNext d line → line_faults d line ≡ [] → line_at d (line_text line ++ rest) ≡ Ok rest
+good_read d line rest units next none = line_is d.stage d (line_text line ++ rest) ∙ good_kind (kind_at d.stage d) d line rest units next none
 
 pub good_line : (d : DraftData) (line : Line) (rest : List ℕ) → IsKept d → IsNext d line → line_faults d line ≡ [] → line_at d (line_text line ++ rest) ≡ Ok rest
 good_line d line rest kept next none = good_read d line rest (units_at d.stage d kept.rows) next none

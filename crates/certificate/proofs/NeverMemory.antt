@@ -15,9 +15,9 @@ use Rattle.certificate.specs.declared.refused.Refused.TheVariants as refused
 use Rattle.certificate.specs.Limits.{greatest}
 use Rattle.certificate.specs.Spelling.{Certificate}
 use Rattle.certificate.specs.Valid.{IsNoCertificate, verdict_of}
-use Rattle.certificate.specs.Draft.{DraftData, network_so_far}
-use Rattle.certificate.specs.Grammar.{Line}
-use Rattle.certificate.specs.LineFaults.{refused_if, range_faults, arc_refusal, line_faults, IsLineFault}
+use Rattle.certificate.specs.Draft.{DraftData, network_so_far, text_so_far}
+use Rattle.certificate.specs.Grammar.{Line, Kind, kind_at}
+use Rattle.certificate.specs.LineFaults.{refused_if, range_faults, arc_refusal, line_faults, IsFaultOf}
 use Rattle.certificate.specs.Judged.{IsLabelBroken, IsFirstFailure}
 use Rattle.certificate.specs.Refusals.{HasRefusal}
 use Rattle.certificate.proofs.OneRefusal.{never_both}
@@ -70,6 +70,7 @@ none_past limit n answer said = none_if (nat_lt (greatest limit) n) (refused.Ran
 
 none_of_line : (d : DraftData) (line : Line) (answer : Refused) → slice_get (line_faults d line) 0 ≡ Some answer → answer ≢ refused.NoMemory
 none_of_line d Line.Title answer said = λ e. cc
+none_of_line d Line.NetworkTitle answer said = λ e. cc
 none_of_line d (Line.Nodes n) answer said = none_past limit.Nodes n answer said
 none_of_line d (Line.Arcs n) answer said = none_past limit.Arcs n answer said
 none_of_line d (Line.K n) answer said = none_past limit.K n answer said
@@ -82,10 +83,10 @@ none_of_line d (Line.Volume n) answer said = none_past limit.Volume n answer sai
 none_of_line d (Line.Wait n) answer said = none_past limit.Wait n answer said
 none_of_line d Line.End answer said = λ e. cc
 
-none_of_fault : (d : DraftData) (bytes : List ℕ) (answer : Refused) → IsLineFault d bytes answer → answer ≢ refused.NoMemory
-none_of_fault d bytes answer (inl h) e = (let no = sym h.says ∙ e in cc)
-none_of_fault d bytes answer (inr (inl h)) e = none_of_line d h.line answer h.first e
-none_of_fault d bytes answer (inr (inr h)) e = (let no = sym h.says ∙ e in cc)
+pub none_of_fault : (kind : Kind) (d : DraftData) (place : ℕ) (bytes : List ℕ) (answer : Refused) → IsFaultOf kind d place bytes answer → answer ≢ refused.NoMemory
+none_of_fault kind d place bytes answer (inl h) e = (let no = sym h.says ∙ e in cc)
+none_of_fault kind d place bytes answer (inr (inl h)) e = none_of_line d h.line answer h.first e
+none_of_fault kind d place bytes answer (inr (inr h)) e = (let no = sym h.says ∙ e in cc)
 
 -- ---- a failure
 
@@ -102,7 +103,7 @@ none_of_failure c answer (inr (kept, inr (waited, h))) e = by h.broken
 -- ---- a text
 
 pub never_memory : (bytes : List ℕ) (answer : Refused) → HasRefusal bytes answer → answer ≢ refused.NoMemory
-never_memory bytes answer (inl h) e = none_of_fault h.draft h.rest answer h.fault e
+never_memory bytes answer (inl h) e = none_of_fault (kind_at h.draft.stage h.draft) h.draft (length (text_so_far h.draft)) h.rest answer h.fault e
 never_memory bytes answer (inr h) e = none_of_failure h.certificate answer h.first e
 
 -- and a refused text is that of no valid certificate

@@ -11,7 +11,8 @@ use Rattle.certificate.specs.Stops.{refusal_of}
 use Rattle.certificate.specs.Refusals.{HasFaultyLine}
 use Rattle.certificate.proofs.Trails.{one_stop}
 use Rattle.certificate.proofs.FaultsRead.{stops_at}
-use Rattle.certificate.proofs.DraftTrail.{start, HasTrail, trail_at}
+use Rattle.certificate.specs.GoodLines.{start}
+use Rattle.certificate.proofs.DraftTrail.{HasTrail, trail_at}
 
 -- the bytes are good lines and then the front of a line, which is not ended
 pub record IsUnended (bytes : List ℕ) : Type 0 where

@@ -19,7 +19,7 @@ use Rattle.certificate.specs.Kept.{HasNoRows, IsAtStage, IsKept}
 use Rattle.certificate.specs.Grammar.{Line, line_text, kind_at, IsOf}
 use Rattle.certificate.specs.LineFaults.{refused_if, range_faults, arc_refusal, line_faults}
 use Rattle.certificate.proofs.Growth.{title_took, nodes_took, arcs_took, k_took, destination_took}
-use Rattle.certificate.proofs.Trails.{step}
+use Rattle.certificate.specs.GoodLines.{step}
 
 -- the line goes from the front of the bytes into the draft
 pub record IsTaken (d : DraftData) (line : Line) (rest : List ℕ) : Type 0 where

@@ -15,7 +15,7 @@ use Rattle.certificate.specs.Grammar.{Line, Kind, HasNumber, IsNext}
 use Rattle.certificate.specs.LineFaults.{line_faults}
 use Rattle.certificate.proofs.Growth.{end_took, volume_took, wait_took}
 use Rattle.certificate.proofs.NextLines.{kind_volume, kind_wait, kind_end}
-use Rattle.certificate.proofs.Trails.{step}
+use Rattle.certificate.specs.GoodLines.{step}
 use Rattle.certificate.proofs.Taking.{IsTaken, in_limit}
 use Rattle.certificate.proofs.TakingRows.{IsAtRows, kept_rows, of_kind, take_arc, take_demand, take_label}
 

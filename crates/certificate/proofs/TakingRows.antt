@@ -18,7 +18,8 @@ use Rattle.certificate.specs.LineFaults.{line_faults}
 use Rattle.certificate.proofs.Keeping.{arc_keeps}
 use Rattle.certificate.proofs.Growth.{arc_took, demand_took, label_took}
 use Rattle.certificate.proofs.NextLines.{kind_demand, kind_label}
-use Rattle.certificate.proofs.Trails.{step, sum_push}
+use Rattle.certificate.specs.GoodLines.{step}
+use Rattle.certificate.proofs.Trails.{sum_push}
 use Rattle.certificate.proofs.Taking.{IsTaken, in_limit, no_arc_faults}
 
 -- a draft at the rows

@@ -22,7 +22,8 @@ use Rattle.certificate.proofs.Fronts.{HasShortNumbers, has_arc}
 use Rattle.certificate.proofs.FrontHeader.{short_rows}
 use Rattle.certificate.proofs.Advancing.{next_of, in_range, middle, next_arc_good}
 use Rattle.certificate.proofs.NextLines.{IsLimited, kind_demand, kind_label, kind_volume, kind_wait}
-use Rattle.certificate.proofs.Trails.{step, Follows, Runs, run_on, fill, sum_push}
+use Rattle.certificate.specs.GoodLines.{step}
+use Rattle.certificate.proofs.Trails.{Follows, Runs, run_on, fill, sum_push}
 
 -- the draft at the rows, with these of them
 abbrev pub with_rows : DraftData → List NetArc → List ℕ → List ℕ → List ℕ → List ℕ → DraftData
@@ -46,7 +47,7 @@ with_rows d arcs demand labels volumes waits =
 full : (a n : ℕ) → a ≤ n → (a < n → ⊥) → n ≤ a
 full a n le more = elim (cases_lt a n) [ inl lt ↦ absurd (more lt) | inr ge ↦ ge ]
 
-arcs_full : (d : DraftData) → HasRows d → 0 < length d.demand → d.arc_count ≤ length d.arcs
+pub arcs_full : (d : DraftData) → HasRows d → 0 < length d.demand → d.arc_count ≤ length d.arcs
 arcs_full d rows some = full (length d.arcs) d.arc_count rows.order.arcs (λ lt. let none = rows.order.arcs_first lt in omega arith)
 
 demand_full : (d : DraftData) → HasRows d → 0 < length d.labels → d.nodes ≤ length d.demand
@@ -64,7 +65,7 @@ before_one xs so_far others x e = (let all : length xs ≡ length (so_far ++ x �
 
 -- ---- each kind
 
-arcs_run : (d : DraftData) → HasSizes d → HasRows d → Runs (with_rows d [] [] [] [] []) (map Line.Arc d.arcs) (with_rows d d.arcs [] [] [] [])
+pub arcs_run : (d : DraftData) → HasSizes d → HasRows d → Runs (with_rows d [] [] [] [] []) (map Line.Arc d.arcs) (with_rows d d.arcs [] [] [] [])
 arcs_run d sizes rows = fill Line.Arc (λ xs. with_rows d xs [] [] [] []) [] d.arcs one
   where
     rules : IsNetwork (network_so_far d)
@@ -82,7 +83,7 @@ arcs_run d sizes rows = fill Line.Arc (λ xs. with_rows d xs [] [] [] []) [] d.a
           is = refl;
         }
 
-demand_run : (d : DraftData) → HasSizes d → HasRows d → Runs (with_rows d d.arcs [] [] [] []) (map Line.Demand d.demand) (with_rows d d.arcs d.demand [] [] [])
+pub demand_run : (d : DraftData) → HasSizes d → HasRows d → Runs (with_rows d d.arcs [] [] [] []) (map Line.Demand d.demand) (with_rows d d.arcs d.demand [] [] [])
 demand_run d sizes rows = fill Line.Demand (λ xs. with_rows d d.arcs xs [] [] []) [] d.demand one
   where
     of : (z at : ℕ) → IsShort z → (b : Bool) → (at == d.destination) ≡ b → (at ≡ d.destination → z ≡ 0) → IsOf (cond b Kind.NoDemand Kind.Demand) (Line.Demand z)

@@ -1,5 +1,5 @@
 -- The texts that are written are short: their bytes are counted in 64 bits.
-use Rattle.std.proofs.Common.{◌≡◌, append_assoc, subst, ℕ, ◌+◌, ◌*◌, ◌≤◌, List, [], ◌∷◌, ◌++◌, length, arith, length-append}
+use Rattle.std.proofs.Common.{◌≡◌, append_assoc, subst, ℕ, ◌+◌, ◌*◌, ◌≤◌, List, ◌++◌, length, arith, length-append}
 use Rattle.std.specs.Prelude.{codes}
 use Rattle.std.specs.List.{flat_map}
 use Rattle.definitions.specs.declared.limits.TheConstants.{NODE_LIMIT, ARC_LIMIT}

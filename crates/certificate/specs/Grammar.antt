@@ -1,15 +1,17 @@
--- The lines of a certificate, and those that may come next. Here: docs/FORMATS.md.
+-- The lines of certificates and network texts, and those that may come next in a certificate. Here: docs/FORMATS.md.
 use Rattle.std.specs.Prelude.{◌≡◌, ℕ, ◌<◌, ◌==◌, nat_lt, List, length, codes, if◌then◌else◌, IfSome}
 use Rattle.definitions.specs.declared.arc.NetArc.{NetArc}
 use Rattle.definitions.specs.Decimal.{number_line}
 use Rattle.certificate.specs.declared.stage.Stage.{Stage}
 use Rattle.certificate.specs.declared.stage.Stage.TheVariants as stage
 use Rattle.certificate.specs.Spelling.{title, last_line, arc_line}
+use Rattle.certificate.specs.NetworkText.{network_title}
 use Rattle.certificate.specs.Draft.{DraftData}
 
 -- a line, by its kind and its numbers
 pub data Line : Type 0 where
   Title : Line
+  NetworkTitle : Line
   Nodes : ℕ → Line
   Arcs : ℕ → Line
   K : ℕ → Line
@@ -24,6 +26,7 @@ pub data Line : Type 0 where
 -- the bytes of a line
 abbrev pub line_text : Line → List ℕ
 line_text Line.Title = title
+line_text Line.NetworkTitle = network_title
 line_text (Line.Nodes n) = number_line (codes "nodes") n
 line_text (Line.Arcs n) = number_line (codes "arcs") n
 line_text (Line.K n) = number_line (codes "k") n
@@ -40,6 +43,7 @@ line_text Line.End = last_line
 -- what may come next: a line of a kind, or nothing after the last
 pub data Kind : Type 0 where
   Title : Kind
+  NetworkTitle : Kind
   Nodes : Kind
   Arcs : Kind
   K : Kind
@@ -95,6 +99,7 @@ pub record HasArc (line : Line) : Type 0 where
 -- the lines of a kind, whether or not their numbers are within the limits
 abbrev pub IsOf : Kind → Line → Type 0
 IsOf Kind.Title line = line ≡ Line.Title
+IsOf Kind.NetworkTitle line = line ≡ Line.NetworkTitle
 IsOf Kind.Nodes line = HasNumber Line.Nodes line
 IsOf Kind.Arcs line = HasNumber Line.Arcs line
 IsOf Kind.K line = HasNumber Line.K line

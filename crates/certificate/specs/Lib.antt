@@ -10,6 +10,9 @@ pub mod Draft
 pub mod NextLine
 pub mod Grammar
 pub mod LineFaults
+pub mod GoodLines
+pub mod NetworkRefusals
+pub mod ProblemDraft
 pub mod Kept
 pub mod DraftFields
 pub mod Stops

@@ -1,7 +1,6 @@
 -- The text of a problem. Here: docs/FORMATS.md.
 use Rattle.std.specs.Prelude.{ℕ, List, ◌++◌, length, codes}
 use Rattle.std.specs.List.{flat_map}
-use Rattle.definitions.specs.declared.arc.NetArc.{NetArc}
 use Rattle.definitions.specs.Decimal.{line_end, number_line}
 use Rattle.definitions.specs.Network.{NetworkData}
 use Rattle.certificate.specs.Spelling.{arc_line, last_line}

@@ -6,8 +6,10 @@ ghost use Rattle.certificate.specs.Draft.{Took, text_so_far};
 ghost use Rattle.certificate.specs.NextLine.{line_at};
 ghost use Rattle.certificate.specs.Kept.{IsKept};
 ghost use Rattle.certificate.specs.Fed.{IsPastArcs, HasFault};
+ghost use Rattle.certificate.specs.ProblemDraft.{IsUnclaimed, HasDemandLeft};
 
 mod header_lines;
+mod network_lines;
 mod row_lines;
 mod whole;
 
@@ -79,6 +81,7 @@ impl Draft {
         ensures memory { result ≡ Err Fault.NoMemory → self.old.stage ≡ Stage.Arcs }
         ensures err { OnErr result (self.new ≡ self.old) }
         ensures onward { IsPastArcs self.old.stage → IsPastArcs self.new.stage }
+        ensures unclaimed { OnOk result (HasDemandLeft self.old → IsUnclaimed self.old → IsUnclaimed self.new) }
     {
         match self.stage {
             Stage::Title => self.title_line(bytes),

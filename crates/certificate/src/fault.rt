@@ -2,8 +2,9 @@
 
 ghost use Rattle.std.specs.Prelude.{◌≡◌};
 ghost use Rattle.certificate.specs.declared.fault.Fault.TheVariants.{NoMemory};
+ghost use Rattle.certificate.specs.Stops.{refusal_of};
 
-use crate::refused::Limit;
+use crate::refused::{Limit, Refused};
 use lp_model::NetFault;
 use std::alloc::AllocError;
 
@@ -24,5 +25,21 @@ impl From<AllocError> for Fault {
 
     fn from(_error: AllocError) -> Fault {
         Fault::NoMemory
+    }
+}
+
+impl Fault {
+    /// The refusal of the fault in a text of this length.
+    pub fn refusal(self, length: usize) -> Refused
+        ensures value { result ≡ refusal_of length self }
+    {
+        match self {
+            Fault::Stop(left) => Refused::Grammar {
+                at: length.saturating_sub(left) as u64,
+            },
+            Fault::Range { limit, count } => Refused::Range { limit, count },
+            Fault::Arc(fault) => Refused::Arc(fault),
+            Fault::NoMemory => Refused::NoMemory,
+        }
     }
 }

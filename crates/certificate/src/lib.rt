@@ -1,4 +1,4 @@
-//! Certificates of an assignment to one destination, and their checker.
+//! Certificates of an assignment to one destination and their checker, and network texts.
 #![tactic(auto)]
 
 mod bytes;
@@ -8,6 +8,8 @@ mod claim;
 mod draft;
 mod fault;
 mod lines;
+mod network_reading;
+mod problem;
 mod refused;
 mod rows;
 mod stage;
@@ -15,5 +17,7 @@ mod writing;
 
 pub use checker::Checker;
 pub use checking::{Verdict, check_text, one_answer};
+pub use network_reading::{one_network_answer, read_network};
+pub use problem::{Problem, Units};
 pub use refused::{Limit, Refused};
 pub use writing::{write_certificate, write_network};

@@ -1,12 +1,13 @@
 //! The lines before the rows.
 
-ghost use Rattle.std.specs.Prelude.{◌≡◌, ◌≢◌, IfOk, OnErr, codes};
+ghost use Rattle.std.specs.Prelude.{◌≡◌, ◌≢◌, IfOk, OnOk, OnErr, codes};
 ghost use Rattle.certificate.specs.Bytes.{Gives, literal_at};
 ghost use Rattle.certificate.specs.Lines.{number_line_at, destination_line_at};
 ghost use Rattle.certificate.specs.Spelling.{title};
 ghost use Rattle.certificate.specs.Draft.{Took};
 ghost use Rattle.certificate.specs.NextLine.{rest_of};
 ghost use Rattle.certificate.specs.Fed.{IsPastArcs};
+ghost use Rattle.certificate.specs.ProblemDraft.{IsUnclaimed};
 
 use crate::bytes::literal_of;
 use crate::draft::Draft;
@@ -35,6 +36,7 @@ impl Draft {
         ensures took { IfOk result (λ rest. Took self.old bytes.now self.new rest.now) }
         ensures read { Gives (λ rest. rest.now) result (rest_of (number_line_at (codes "nodes") Limit.Nodes bytes.now)) }
         ensures err { OnErr result (self.new ≡ self.old) }
+        ensures unclaimed { OnOk result (IsUnclaimed self.old → IsUnclaimed self.new) }
     {
         let (number, rest) = number_line_of(b"nodes", Limit::Nodes, bytes)?;
         self.nodes = number as u32;
@@ -48,6 +50,7 @@ impl Draft {
         ensures took { IfOk result (λ rest. Took self.old bytes.now self.new rest.now) }
         ensures read { result ≢ Err Fault.NoMemory → Gives (λ rest. rest.now) result (rest_of (number_line_at (codes "arcs") Limit.Arcs bytes.now)) }
         ensures err { OnErr result (self.new ≡ self.old) }
+        ensures unclaimed { OnOk result (IsUnclaimed self.old → IsUnclaimed self.new) }
     {
         let (number, rest) = number_line_of(b"arcs", Limit::Arcs, bytes)?;
         let arc_count = number as u32;
@@ -64,6 +67,7 @@ impl Draft {
         ensures read { Gives (λ rest. rest.now) result (rest_of (number_line_at (codes "k") Limit.K bytes.now)) }
         ensures err { OnErr result (self.new ≡ self.old) }
         ensures onward { IsPastArcs self.new.stage }
+        ensures unclaimed { OnOk result (IsUnclaimed self.old → IsUnclaimed self.new) }
     {
         let (number, rest) = number_line_of(b"k", Limit::K, bytes)?;
         self.k = number as u64;
@@ -78,6 +82,7 @@ impl Draft {
         ensures read { Gives (λ rest. rest.now) result (rest_of (destination_line_at self.old.nodes bytes.now)) }
         ensures err { OnErr result (self.new ≡ self.old) }
         ensures onward { IsPastArcs self.new.stage }
+        ensures unclaimed { OnOk result (IsUnclaimed self.old → IsUnclaimed self.new) }
     {
         let (number, rest) = destination_line_of(self.nodes, bytes)?;
         self.destination = number;

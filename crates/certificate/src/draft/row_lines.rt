@@ -1,6 +1,6 @@
 //! The rows and the last line.
 
-ghost use Rattle.std.specs.Prelude.{◌≡◌, ◌<◌, ◌==◌, length, IfOk, OnErr, codes};
+ghost use Rattle.std.specs.Prelude.{◌≡◌, ◌<◌, ◌==◌, length, IfOk, OnOk, OnErr, codes};
 ghost use Rattle.lp_model.specs.Faults.{tail_before};
 ghost use Rattle.certificate.specs.Bytes.{Gives, literal_at};
 ghost use Rattle.certificate.specs.Lines.{number_line_at, demand_line_at, arc_line_at};
@@ -8,6 +8,7 @@ ghost use Rattle.certificate.specs.Spelling.{last_line};
 ghost use Rattle.certificate.specs.Draft.{Took, network_so_far};
 ghost use Rattle.certificate.specs.NextLine.{rest_of, row_at};
 ghost use Rattle.certificate.specs.Fed.{IsPastArcs};
+ghost use Rattle.certificate.specs.ProblemDraft.{IsUnclaimed, HasDemandLeft};
 
 use crate::bytes::literal_of;
 use crate::draft::Draft;
@@ -24,6 +25,7 @@ impl Draft {
         ensures read { Gives (λ rest. rest.now) result (row_at self.old bytes.now) }
         ensures err { OnErr result (self.new ≡ self.old) }
         ensures onward { IsPastArcs self.new.stage }
+        ensures unclaimed { OnOk result (HasDemandLeft self.old → IsUnclaimed self.old → IsUnclaimed self.new) }
     {
         let nodes = self.nodes as usize;
         let arc_count = self.arc_count as usize;
@@ -61,6 +63,7 @@ impl Draft {
             (rest_of (arc_line_at self.old.nodes (tail_before (network_so_far self.old) (length self.old.arcs)) (length self.old.arcs) bytes.now)) }
         ensures err { OnErr result (self.new ≡ self.old) }
         ensures onward { IsPastArcs self.new.stage }
+        ensures unclaimed { OnOk result (IsUnclaimed self.old → IsUnclaimed self.new) }
     {
         let number = self.rows.arcs.len() as u32;
         let before = self.last_tail();
@@ -78,6 +81,7 @@ impl Draft {
         ensures read { Gives (λ rest. rest.now) result (rest_of (demand_line_at (length self.old.demand == self.old.destination) self.old.units bytes.now)) }
         ensures err { OnErr result (self.new ≡ self.old) }
         ensures onward { IsPastArcs self.new.stage }
+        ensures unclaimed { OnOk result (IsUnclaimed self.old → IsUnclaimed self.new) }
     {
         let is_destination = self.rows.demand.len() == self.destination as usize;
         let (count, rest) = demand_line_of(is_destination, self.units, bytes)?;

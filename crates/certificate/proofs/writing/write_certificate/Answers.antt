@@ -1,4 +1,4 @@
-use Rattle.std.proofs.Common.{◌≡◌, ◌<◌, ◌∙◌, refl, subst, arith, List, ℕ, length, take}
+use Rattle.std.proofs.Common.{◌<◌, ◌∙◌, subst, arith, length, take}
 use Rattle.std.specs.Prelude.{OnOk, IfErr}
 use Rattle.desk_io.specs.Told.{Appends}
 use Rattle.certificate.specs.Spelling.{certificate_of}

@@ -1,4 +1,4 @@
-use Rattle.std.proofs.Common.{rules, refl, arith}
+use Rattle.std.proofs.Common.{rules, arith}
 use Rattle.definitions.specs.Network.{no_arc}
 use Rattle.certificate.specs.Spelling.{arc_line}
 use Rattle.certificate.proofs.WritingLemmas.{sends_next, stops_next, handed_on}

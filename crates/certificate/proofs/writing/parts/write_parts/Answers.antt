@@ -1,4 +1,4 @@
-use Rattle.std.proofs.Common.{rules, refl, arith}
+use Rattle.std.proofs.Common.{rules}
 use Rattle.certificate.specs.Parts.{part_text}
 use Rattle.certificate.proofs.WritingLemmas.{sends_next, stops_next, handed_on}
 use Rattle.certificate.proofs.writing.parts.write_parts.Goals as goal

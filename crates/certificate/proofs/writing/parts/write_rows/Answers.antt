@@ -1,4 +1,4 @@
-use Rattle.std.proofs.Common.{rules, refl, arith}
+use Rattle.std.proofs.Common.{rules}
 use Rattle.definitions.specs.Decimal.{number_line}
 use Rattle.certificate.proofs.WritingLemmas.{sends_next, stops_next, handed_on}
 use Rattle.certificate.proofs.writing.parts.write_rows.Goals as goal

@@ -1,4 +1,4 @@
-use Rattle.std.proofs.Common.{rules, refl, arith}
+use Rattle.std.proofs.Common.{rules, refl}
 use Rattle.std.specs.Prelude.{codes}
 use Rattle.definitions.specs.Decimal.{number_line}
 use Rattle.certificate.proofs.WritingLemmas.{sends_next, stops_next, handed_on}
