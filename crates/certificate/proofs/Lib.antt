@@ -15,6 +15,16 @@ pub mod TrailRows
 pub mod DraftTrail
 pub mod OneFault
 pub mod OneRefusal
+pub mod FormTrails
+pub mod FormRows
+pub mod FormLines
+pub mod FormPaths
+pub mod FormWrongBytes
+pub mod FormFilled
+pub mod FormSteps
+pub mod FormBegins
+pub mod FormRowBegins
+pub mod FormPlaces
 pub mod ArcsLine
 pub mod Taking
 pub mod TakingRows

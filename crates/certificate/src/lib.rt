@@ -8,6 +8,7 @@ mod claim;
 mod draft;
 mod fault;
 mod lines;
+mod places;
 mod refused;
 mod rows;
 mod stage;
@@ -15,5 +16,6 @@ mod writing;
 
 pub use checker::Checker;
 pub use checking::{Verdict, check_text, one_answer};
+pub use places::places_are_of_the_form;
 pub use refused::{Limit, Refused};
 pub use writing::{write_certificate, write_network};
