@@ -110,7 +110,7 @@ of_failure c place (inr (kept, inr (waited, h))) = by h.broken
 
 -- ---- any text
 
-said_place : (bytes : List ℕ) (place : ℕ) → SaysWhereItLeaves bytes (refused.Grammar place) → LeavesFormAt bytes place
+pub said_place : (bytes : List ℕ) (place : ℕ) → SaysWhereItLeaves bytes (refused.Grammar place) → LeavesFormAt bytes place
 said_place bytes place s = subst (LeavesFormAt bytes) (let said = s.says in let same : s.place ≡ place = cc in same) s.leaves
 
 line_place : (d : DraftData) (bytes : List ℕ) (place : ℕ) → IsKept d → IsLineFault d bytes (refused.Grammar place) → LeavesFormAt (text_so_far d ++ bytes) place

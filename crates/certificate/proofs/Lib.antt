@@ -46,6 +46,7 @@ pub mod NextLines
 pub mod Spelled
 pub mod Unique
 mod KnownFaults
+mod KnownPlaces
 pub mod Verdicts
 pub mod LineReaders
 pub mod NumberReaders

@@ -17,6 +17,6 @@ pub fn places_are_of_the_form()
     ensures wrong_byte { WrongByteLeaves }
     ensures after_end { NothingComesAfterEnd }
     ensures place { PlaceIsOfTheForm }
-    ensures text { TextLeavesFormThere }
+    ensures text_leaves_there { TextLeavesFormThere }
     ensures one_place { OnePlace }
 {}

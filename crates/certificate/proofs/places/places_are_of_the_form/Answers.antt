@@ -9,6 +9,6 @@ returns c = record {
   wrong_byte = wrong_byte_leaves;
   after_end = λ draft byte kept last. (end_begins draft kept last, nothing_after_end draft byte kept last);
   place = place_is;
-  text = leaves_there;
+  text_leaves_there = leaves_there;
   one_place = one_place;
 }
