@@ -1,26 +1,18 @@
--- After good lines, each line that may come next begins a text of the form, and so does each front of it.
-use Rattle.std.proofs.Common.{◌≡◌, ℕ, ◌<◌, ◌≤◌, ◌==◌, Bool, true, false, cond, List, [], ◌∷◌, ◌++◌, length, refl, sym, ap, subst, ◌∙◌, append_assoc, arith, inl, inr}
+-- After good lines, each line of the header begins a text of the form with them.
+use Rattle.std.proofs.Common.{◌≡◌, ℕ, List, [], ◌++◌, refl, sym, subst, ◌∙◌, append_assoc, arith, inl}
 use Rattle.std.specs.Prelude.{codes}
-use Rattle.std.proofs.lemmas.Bool.{lt-ltb, cases_lt, eq-eqb}
 use Rattle.std.proofs.lemmas.List.{append-nil}
 use Rattle.std.proofs.lemmas.List.Elements.{All-nil}
 use Rattle.definitions.specs.Decimal.{number_line}
 use Rattle.certificate.specs.declared.stage.Stage.{Stage}
 use Rattle.certificate.specs.declared.stage.Stage.TheVariants as stage
-use Rattle.certificate.specs.Spelling.{title, last_line, arc_line}
-use Rattle.certificate.specs.Draft.{DraftData, text_before, text_so_far, up_to_rows, Took}
-use Rattle.certificate.specs.Kept.{IsWhole, IsAtStage, IsKept}
-use Rattle.certificate.specs.Grammar.{Line, line_text, Kind, kind_at, IsShort, HasNumber, HasArc, IsOf, IsNext}
-use Rattle.certificate.specs.LineFaults.{IsWithinLine}
-use Rattle.certificate.specs.Form.{IsShortArc, BeginsText}
-use Rattle.certificate.proofs.Growth.{arc_took, demand_took, label_took, volume_took, wait_took}
-use Rattle.certificate.proofs.NextLines.{kind_demand, kind_label, kind_volume, kind_wait, kind_end}
-use Rattle.certificate.proofs.FrontRows.{full_of}
-use Rattle.certificate.proofs.Trails.{step}
-use Rattle.certificate.proofs.TakingRows.{IsAtRows, of_kind}
-use Rattle.certificate.proofs.FormRows.{IsLaid, laid_rows}
-use Rattle.certificate.proofs.FormSteps.{laid_arc, laid_demand, laid_label, laid_volume, laid_wait}
-use Rattle.certificate.proofs.FormFilled.{IsFrontOf, HasFilling, begins_text}
+use Rattle.certificate.specs.Spelling.{title, last_line}
+use Rattle.certificate.specs.Draft.{DraftData, text_before}
+use Rattle.certificate.specs.Kept.{IsKept}
+use Rattle.certificate.specs.Grammar.{Line, line_text, kind_at, IsShort, IsOf}
+use Rattle.certificate.specs.Form.{IsShortArc}
+use Rattle.certificate.proofs.FormRows.{IsLaid}
+use Rattle.certificate.proofs.FormFilled.{IsFrontOf, HasFilling}
 
 -- ---- the header
 

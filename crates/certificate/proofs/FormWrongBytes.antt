@@ -1,13 +1,11 @@
 -- With a wrong byte no text of the form begins, and with any byte after the last line none does.
 use Rattle.std.proofs.Common.{◌≡◌, ℕ, List, [], ◌∷◌, ◌++◌, length, length-append, refl, sym, ap, ◌∙◌, append_assoc, arith, ◌⊎◌, inl, inr}
-use Rattle.std.specs.List.{flat_map}
 use Rattle.certificate.specs.declared.stage.Stage.TheVariants as stage
 use Rattle.certificate.specs.Spelling.{spelling}
 use Rattle.certificate.specs.Draft.{DraftData, text_so_far}
 use Rattle.certificate.specs.Kept.{IsKept}
-use Rattle.certificate.specs.Grammar.{line_text}
 use Rattle.certificate.specs.LineFaults.{IsWithinLine, BeginsNoLine}
-use Rattle.certificate.specs.Form.{IsOfForm, BeginsText, BeginsNoText}
+use Rattle.certificate.specs.Form.{IsOfForm, BeginsNoText}
 use Rattle.certificate.specs.Spelling.{Certificate}
 use Rattle.certificate.proofs.DraftTrail.{start}
 use Rattle.certificate.proofs.FormTrails.{Continues, continues, none_after_end, wrong_byte}

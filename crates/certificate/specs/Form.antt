@@ -82,7 +82,7 @@ WrongByteLeaves =
     (draft : DraftData) (before : List ℕ) (byte : ℕ) → IsKept draft → IsWithinLine draft before → BeginsNoLine draft (before ++ byte ∷ []) →
     BeginsNoText (text_so_far draft ++ (before ++ byte ∷ []))
 
--- the lines up to the last are a text of the form, and with any byte more they begin none
+-- the lines up to the last begin a text of the form, and with any byte more they begin none
 abbrev pub NothingComesAfterEnd : Type 0
 NothingComesAfterEnd =
     (draft : DraftData) (byte : ℕ) → IsKept draft → draft.stage ≡ stage.Done →
