@@ -22,6 +22,16 @@ pub mod OfLines
 pub mod NetworkAnswers
 pub mod OneFault
 pub mod OneRefusal
+pub mod FormTrails
+pub mod FormRows
+pub mod FormLines
+pub mod FormPaths
+pub mod FormWrongBytes
+pub mod FormFilled
+pub mod FormSteps
+pub mod FormBegins
+pub mod FormRowBegins
+pub mod FormPlaces
 pub mod ArcsLine
 pub mod Taking
 pub mod TakingRows
@@ -44,6 +54,7 @@ pub mod NextLines
 pub mod Spelled
 pub mod Unique
 mod KnownFaults
+mod KnownPlaces
 pub mod Verdicts
 pub mod LineReaders
 pub mod NumberReaders

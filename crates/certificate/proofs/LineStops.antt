@@ -39,7 +39,7 @@ either : (b : Bool) (k l : Kind) → (k ≡ Kind.Nothing → ⊥) → (l ≡ Kin
 either true k l p q e = p e
 either false k l p q e = q e
 
-row_some : (d : DraftData) → row_kind d ≡ Kind.Nothing → ⊥
+pub row_some : (d : DraftData) → row_kind d ≡ Kind.Nothing → ⊥
 row_some d =
     either (nat_lt (length d.arcs) d.arc_count) _ _ (λ e. cc)
     (either (nat_lt (length d.demand) d.nodes) _ _ (either (length d.demand == d.destination) _ _ (λ e. cc) (λ e. cc))

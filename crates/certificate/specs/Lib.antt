@@ -19,5 +19,6 @@ pub mod Stops
 pub mod Judged
 pub mod Claims
 pub mod Refusals
+pub mod Form
 pub mod Fed
 pub mod CheckerFields

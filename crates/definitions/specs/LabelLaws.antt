@@ -1,11 +1,11 @@
--- Laws of reach and labels: there is one list of each, and the labels are dual feasible.
+-- Laws of reach and labels: there is at most one list of each, and the labels are dual feasible.
 use Rattle.std.specs.Prelude.{◌≡◌, ℕ, Bool, List}
 use Rattle.definitions.specs.Network.{NetworkData, IsWellFormed}
 use Rattle.definitions.specs.Dual.{IsDualFeasible}
 use Rattle.definitions.specs.Reach.{IsReach}
 use Rattle.definitions.specs.Labels.{SolvesLabels}
 
--- a network and a destination have one list of marks
+-- a network and a destination have at most one list of marks
 abbrev pub ReachIsUnique : Type 0
 ReachIsUnique = (net : NetworkData) (destination : ℕ) (reached marks : List Bool) →
     IsReach net destination reached → IsReach net destination marks → reached ≡ marks

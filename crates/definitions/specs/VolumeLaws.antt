@@ -32,12 +32,12 @@ VolumesAreWithinDemand = (net : NetworkData) (destination : ℕ) (reached : List
     SolvesVolumes net destination reached labels demand volumes →
     (arc : ℕ) → arc < length net.arcs → slice_index volumes arc ≤ sum demand
 
--- one list solves the equations of volumes, whatever the labels are
+-- at most one list solves the equations of volumes, whatever the labels are
 abbrev pub VolumesAreOne : Type 0
 VolumesAreOne = (net : NetworkData) (destination : ℕ) (reached : List Bool) (labels demand volumes others : List ℕ) → IsWellFormed net →
     length labels ≡ net.nodes → SolvesVolumes net destination reached labels demand volumes →
     SolvesVolumes net destination reached labels demand others → volumes ≡ others
 
--- one list is that of the least waits
+-- at most one list is that of the least waits
 abbrev pub LeastWaitsAreOne : Type 0
 LeastWaitsAreOne = (net : NetworkData) (volumes waits others : List ℕ) → AreLeastWaits net volumes waits → AreLeastWaits net volumes others → waits ≡ others

@@ -2,9 +2,9 @@
 
 ghost use Rattle.definitions.specs.LabelLaws.{ReachIsUnique, LabelsAreUnique, LabelsAreDual};
 
-/// A destination has one list of marks and one list of labels.
+/// A destination has at most one list of marks and at most one list of labels.
 ///
-/// For every network and destination there is one list of marks that tells which nodes reach. For
+/// For every network and destination at most one list of marks tells which nodes reach. For
 /// every well-formed network, every destination and all marks, the equations of labels have at most
 /// one solution: an arc costs a tick or more, so a label rests on lower ones alone.
 pub fn labels_are_unique()
