@@ -184,14 +184,15 @@ const PROBLEMS: [(u32, &[NetArc], u64, u32, &[u64]); 4] = [
 fn written_problems_are_read(rt: HostRuntime) -> Result<(), Fail> {
     for (nodes, arcs, k, dest, demand) in &PROBLEMS {
         let net = Network::new(*nodes, arcs.to_vec(rt.alloc())?, *k).map_err(|_| "a network")?;
+        assert!(rt; net.nodes() as usize == demand.len());
         let mut out = MemorySink::new(rt.alloc(), 1000, 1000, Vec::new(rt.alloc()))?;
         write_network(&mut out, &net, *dest, demand).map_err(|_| "room")?;
         let read = read_network(rt.alloc(), out.bytes()).map_err(|_| "a network text")?;
         assert_eq!(rt; read.net.nodes(), *nodes);
         assert_eq!(rt; read.net.k(), *k);
         assert_eq!(rt; read.net.arcs() as usize, arcs.len());
-        for (number, arc) in arcs.iter().enumerate() {
-            assert_eq!(rt; read.net.arc(number as u32), arc);
+        for number in 0..read.net.arcs() {
+            assert_eq!(rt; Some(read.net.arc(number)), arcs.get(number as usize));
         }
         assert_eq!(rt; read.dest, *dest);
         assert_eq!(rt; read.demand.as_slice(), *demand);
@@ -207,6 +208,7 @@ fn a_problem_is_made(rt: HostRuntime) -> Result<(), Fail> {
         dest: 0,
         demand: Units::new([0].to_vec(rt.alloc())?),
     };
+    assert!(rt; problem.net.nodes() as usize == problem.demand.as_slice().len());
     let mut out = MemorySink::new(rt.alloc(), 1000, 1000, Vec::new(rt.alloc()))?;
     write_network(
         &mut out,

@@ -71,6 +71,7 @@ const WAITS: [u128; 3] = [1_000_000_000_000_000_000_000_000_000, 0, 7];
 #[test]
 fn texts_are_written(rt: HostRuntime) -> Result<(), Fail> {
     let net = network(rt.alloc()).map_err(|_| "a network")?;
+    assert!(rt; net.nodes() == 3 && net.arcs() == 2);
     for (room, sent) in [(1000, None), (5, Some(5)), (0, Some(0)), (100, Some(100))] {
         let answer = match sent {
             None => Ok(()),
@@ -79,12 +80,14 @@ fn texts_are_written(rt: HostRuntime) -> Result<(), Fail> {
         let mut out = MemorySink::new(rt.alloc(), room, 10, Vec::new(rt.alloc()))?;
         assert_eq!(rt; write_network(&mut out, &net, 1, &DEMAND), answer, "{room}");
         let end = sent.unwrap_or(NETWORK_TEXT.len());
-        assert_eq!(rt; out.bytes(), &NETWORK_TEXT[..end], "{room}");
+        let front = NETWORK_TEXT.get(..end).ok_or("so many bytes")?;
+        assert_eq!(rt; out.bytes(), front, "{room}");
         let mut out = MemorySink::new(rt.alloc(), room, 10, Vec::new(rt.alloc()))?;
         let got = write_certificate(&mut out, &net, 1, &DEMAND, &LABELS, &VOLUMES, &WAITS);
         assert_eq!(rt; got, answer, "{room}");
         let end = sent.unwrap_or(CERTIFICATE_TEXT.len());
-        assert_eq!(rt; out.bytes(), &CERTIFICATE_TEXT[..end], "{room}");
+        let front = CERTIFICATE_TEXT.get(..end).ok_or("so many bytes")?;
+        assert_eq!(rt; out.bytes(), front, "{room}");
     }
     Ok(())
 }
