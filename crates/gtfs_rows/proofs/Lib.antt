@@ -12,6 +12,8 @@ pub mod PositionLemmas
 pub mod DateLemmas
 pub mod UnicodeLemmas
 pub mod FaultLemmas
+pub mod RefusalLemmas
+pub mod KindLemmas
 pub mod RowLemmas
 pub mod TextLemmas
 pub mod FieldTextLemmas

@@ -1,12 +1,15 @@
 //! A sheet: the wanted fields of a file's records.
 
-ghost use Rattle.std.specs.Prelude.{◌≡◌, ◌+◌, ◌*◌, ◌<◌, ◌^◌, [], IfOk, IfErr, OnOk, length, slice_index_or, map, IsUtf8};
+ghost use Rattle.std.specs.Prelude.{◌≡◌, ◌≢◌, ◌+◌, ◌*◌, ◌<◌, ◌^◌, [], Err, IfOk, IfErr, OnOk, length, slice_index_or, map, IsUtf8};
 ghost use Rattle.std.specs.Str.{is_utf8};
 ghost use Rattle.gtfs_rows.specs.Cursor.{AllTexts, IsReading, left_of};
-ghost use Rattle.gtfs_rows.specs.Records.{has_mark, trimmed, unmarked};
+ghost use Rattle.gtfs_rows.specs.Records.{has_mark, header_of, records_of, trimmed, unmarked};
 ghost use Rattle.gtfs_rows.specs.Shape.{HasShape, rows_of};
 ghost use Rattle.gtfs_rows.specs.Sheets.{cell, sheet_of, sheet_of_records};
 ghost use Rattle.gtfs_rows.specs.Faults.{IsFirstFault, record_faults, sheet_faults};
+ghost use Rattle.gtfs_rows.specs.Refusals.{HasDoubleColumn, HasMissingColumn, HasNoRecord, HasUnevenRow, IsNotText};
+ghost use Rattle.gtfs_rows.specs.declared.place.Place.{Place};
+ghost use Rattle.gtfs_rows.specs.declared.row_fault.RowFault.TheVariants as fault;
 
 use crate::field_list::FieldList;
 use crate::header::{places_of, trimmed_fields};
@@ -56,13 +59,19 @@ impl Sheet {
         // Each fault is answered, and no other comes before it.
         ensures faultless { OnOk result (sheet_faults file.now bytes.now wanted.now ≡ []) }
         ensures refused { IfErr result (IsFirstFault (sheet_faults file.now bytes.now wanted.now)) }
+
+        // What each refusal says of the file.
+        ensures not_utf8 { (p : Place) → result ≡ Err (fault.NotUtf8 p) → IsNotText file.now bytes.now p }
+        ensures no_header { (p : Place) → result ≡ Err (fault.NoHeader p) → HasNoRecord file.now bytes.now p }
+        ensures double_column { (p : Place) → result ≡ Err (fault.DoubleColumn p)
+            → HasDoubleColumn file.now (header_of (records_of bytes.now)) wanted.now p }
+        ensures missing_column { (p : Place) → result ≡ Err (fault.MissingColumn p)
+            → HasMissingColumn file.now (header_of (records_of bytes.now)) wanted.now p }
+        ensures row_width { (p : Place) → result ≡ Err (fault.RowWidth p)
+            → HasUnevenRow file.now (records_of bytes.now) wanted.now p }
+        ensures no_bad_field { (p : Place) → result ≢ Err (fault.BadField p) }
     {
-        let text = unmarked(bytes);
-        if !is_text(text) {
-            return Err(RowFault::NotUtf8(Place::new(alloc, file, 0, "", b"")?));
-        }
-        let mut reader = open(alloc, text);
-        read_records(alloc, file, &mut reader, wanted.columns())
+        read_bytes(alloc, file, bytes, wanted.columns())
     }
 
     // The sheet of rows of this width, one after the other.
@@ -131,6 +140,20 @@ fn is_text(bytes: &[u8]) -> bool
     ensures value { result ≡ is_utf8 bytes.now }
 {
     from_utf8(bytes).is_ok()
+}
+
+// The sheet of the bytes of a file.
+fn read_bytes(alloc: Global, file: &str, bytes: &[u8], wanted: &[Column]) -> Result<Sheet, RowFault>
+    ensures sheet { IfOk result (λ sheet. sheet ≡ sheet_of bytes.now wanted.now) }
+    ensures faultless { OnOk result (sheet_faults file.now bytes.now wanted.now ≡ []) }
+    ensures refused { IfErr result (IsFirstFault (sheet_faults file.now bytes.now wanted.now)) }
+{
+    let text = unmarked(bytes);
+    if !is_text(text) {
+        return Err(RowFault::NotUtf8(Place::new(alloc, file, 0, "", b"")?));
+    }
+    let mut reader = open(alloc, text);
+    read_records(alloc, file, &mut reader, wanted)
 }
 
 // The sheet of the records that are left.

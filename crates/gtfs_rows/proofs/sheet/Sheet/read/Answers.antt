@@ -1,16 +1,20 @@
-use Rattle.std.proofs.Common.{arith, ap, length, sym}
-use Rattle.csv.specs.Reading.{strip_bom}
-use Rattle.gtfs_rows.proofs.RecordLemmas.{all-few}
-use Rattle.gtfs_rows.proofs.TextLemmas.{all-texts}
-use Rattle.gtfs_rows.proofs.UnicodeLemmas.{strip-length}
+use Rattle.gtfs_rows.proofs.KindLemmas.{bad-field, double-column, missing-column, no-record, not-text, uneven-row}
 use Rattle.gtfs_rows.proofs.sheet.Sheet.read.Goals as goal
 
-pub read_records-requires-clause-text : goal.read_records-requires-clause-text
-read_records-requires-clause-text c = rw c.open-reader.ensures.left (all-texts c.unmarked-text.result.now (sym c.if-not-is_text.ensures.value))
+pub returns-clause-not_utf8 : goal.returns-clause-not_utf8
+returns-clause-not_utf8 c = λ p e. not-text c.args.file.now c.args.bytes.now c.args.wanted.now p (rw (c.columns.ensures.value, e) at c.read_bytes.ensures.refused)
 
-pub read_records-requires-clause-few : goal.read_records-requires-clause-few
-read_records-requires-clause-few c =
-    let few = all-few (strip_bom c.unmarked-text.result.now) in
-    let short = strip-length c.unmarked-text.result.now in
-    let all = ap length c.open-reader.ensures.left in
-    omega arith
+pub returns-clause-no_header : goal.returns-clause-no_header
+returns-clause-no_header c = λ p e. no-record c.args.file.now c.args.bytes.now c.args.wanted.now p (rw (c.columns.ensures.value, e) at c.read_bytes.ensures.refused)
+
+pub returns-clause-double_column : goal.returns-clause-double_column
+returns-clause-double_column c = λ p e. double-column c.args.file.now c.args.bytes.now c.args.wanted.now p (rw (c.columns.ensures.value, e) at c.read_bytes.ensures.refused)
+
+pub returns-clause-missing_column : goal.returns-clause-missing_column
+returns-clause-missing_column c = λ p e. missing-column c.args.file.now c.args.bytes.now c.args.wanted.now p (rw (c.columns.ensures.value, e) at c.read_bytes.ensures.refused)
+
+pub returns-clause-row_width : goal.returns-clause-row_width
+returns-clause-row_width c = λ p e. uneven-row c.args.file.now c.args.bytes.now c.args.wanted.now p (rw (c.columns.ensures.value, e) at c.read_bytes.ensures.refused)
+
+pub returns-clause-no_bad_field : goal.returns-clause-no_bad_field
+returns-clause-no_bad_field c = λ p e. bad-field c.args.file.now c.args.bytes.now c.args.wanted.now p (rw (c.columns.ensures.value, e) at c.read_bytes.ensures.refused)
