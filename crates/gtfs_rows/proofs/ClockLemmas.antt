@@ -1,7 +1,7 @@
 -- Fields that are no times.
-use Rattle.std.proofs.Common.{◌≡◌, ℕ, List, [], false, Some, None, refl, sym}
+use Rattle.std.proofs.Common.{◌≡◌, ℕ, List, false, Some, None, refl}
 use Rattle.std.specs.Prelude.{Option}
-use Rattle.std.specs.List.{after_first, list_any}
+use Rattle.std.specs.List.{list_any}
 use Rattle.gtfs_rows.specs.Fields.{before_colon, behind_colon, number_in, clock_of, is_colon, seconds_of, sixty_of}
 use Rattle.gtfs_rows.proofs.PartLemmas.{behind-none}
 

@@ -1,5 +1,5 @@
 -- A date of the numbers that its digits write.
-use Rattle.std.proofs.Common.{◌≡◌, ℕ, ℤ, ◌-◌, List, Some, length, take, drop, refl, sym, ap, ◌∙◌, arith, eq-eqb}
+use Rattle.std.proofs.Common.{◌≡◌, ℕ, ℤ, ◌-◌, List, Some, length, take, drop, refl, ◌∙◌, arith, eq-eqb}
 use Rattle.std.specs.Prelude.{Option}
 use Rattle.std.proofs.lemmas.List.{length-drop, take_all}
 use Rattle.gtfs_rows.specs.Fields.{civil_at, date_of, number_in}

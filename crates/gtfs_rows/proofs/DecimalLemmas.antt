@@ -1,9 +1,8 @@
 -- Numbers of trips without a point.
-use Rattle.std.proofs.Common.{◌≡◌, ◌*◌, ◌+◌, ℕ, List, [], true, false, Some, refl, ap, sym, ◌∙◌, arith}
-use Rattle.std.specs.Prelude.{codes}
+use Rattle.std.proofs.Common.{◌≡◌, ◌*◌, ◌+◌, ℕ, List, true, false, Some, ap, arith}
 use Rattle.std.specs.List.{list_any}
 use Rattle.std.specs.Str.Parse.{digits_value}
-use Rattle.gtfs_rows.specs.Fields.{before_point, behind_point, is_number, is_point, number_in, trips_of}
+use Rattle.gtfs_rows.specs.Fields.{before_point, is_number, is_point, number_in, trips_of}
 use Rattle.gtfs_rows.proofs.DigitLemmas.{number_is}
 use Rattle.gtfs_rows.proofs.PartLemmas.{behind-none}
 

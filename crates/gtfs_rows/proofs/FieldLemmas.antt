@@ -1,6 +1,6 @@
 -- The fields of a record, trimmed.
-use Rattle.std.proofs.Common.{◌≡◌, ℕ, zero, suc, ◌<◌, ◌≤◌, ◌+◌, List, [], ◌∷◌, ◌++◌, Some, None, length, take, get_or, map, refl, sym, ◌∙◌, arith}
-use Rattle.std.proofs.lemmas.List.{get_or-map, get_or_past, length-map, map-append, take_more}
+use Rattle.std.proofs.Common.{◌≡◌, ℕ, zero, suc, ◌<◌, ◌≤◌, List, [], ◌∷◌, Some, None, length, get_or, map, refl, sym, arith}
+use Rattle.std.proofs.lemmas.List.{get_or-map, get_or_past, length-map}
 use Rattle.csv.specs.Records.{field_at}
 use Rattle.gtfs_rows.specs.Records.{trimmed}
 

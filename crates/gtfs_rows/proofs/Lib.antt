@@ -18,3 +18,4 @@ pub mod RowLemmas
 pub mod TextLemmas
 pub mod FieldTextLemmas
 pub mod KnownValues
+pub mod KnownSheets

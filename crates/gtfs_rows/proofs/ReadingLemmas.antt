@@ -1,12 +1,11 @@
 -- Steps of reading the records of a sheet.
-use Rattle.std.proofs.Common.{◌≡◌, ℕ, zero, suc, ◌<◌, ◌≤◌, ◌+◌, ◌*◌, Bool, true, false, List, [], ◌∷◌, ◌++◌, Option, Some, None, length, map, refl, sym, ap, ◌∙◌, arith, append_assoc, eq-eqb, inl, inr}
+use Rattle.std.proofs.Common.{◌≡◌, ℕ, ◌+◌, ◌*◌, Bool, true, false, List, [], ◌∷◌, ◌++◌, Option, Some, length, map, refl, sym, ◌∙◌, arith, append_assoc, eq-eqb}
 use Rattle.std.specs.Prelude.{◌==◌, if◌then◌else◌, slice_get}
 use Rattle.std.proofs.lemmas.Bool.{ne_eqb}
-use Rattle.std.proofs.lemmas.List.{append-nil, length-map}
+use Rattle.std.proofs.lemmas.List.{length-map}
 use Rattle.gtfs_rows.specs.declared.place.Place.{Place}
-use Rattle.gtfs_rows.specs.declared.row_fault.RowFault.{RowFault}
 use Rattle.gtfs_rows.specs.declared.row_fault.RowFault.TheVariants as fault
-use Rattle.gtfs_rows.specs.Faults.{row_place, width_fault, width_faults}
+use Rattle.gtfs_rows.specs.Faults.{row_place, width_faults}
 use Rattle.gtfs_rows.specs.Records.{trimmed}
 use Rattle.gtfs_rows.specs.Shape.{rows_of}
 use Rattle.gtfs_rows.specs.Sheets.{field_in}

@@ -1,15 +1,14 @@
 -- The first of all faults of a sheet, fault by fault.
-use Rattle.std.proofs.Common.{◌≡◌, ◌≢◌, ◌<◌, ◌≤◌, ◌+◌, ◌⊎◌, inl, inr, ℕ, zero, suc, Bool, true, false, List, [], ◌∷◌, ◌++◌, Some, None, length, get_or, refl, sym, ap, ◌∙◌, append_assoc, arith, eq-eqb, subst}
-use Rattle.std.specs.Prelude.{◌==◌, ◌&&◌, IsUtf8, flat_map, nat_lt, not, slice_get, slice_index_or}
+use Rattle.std.proofs.Common.{◌≡◌, ◌≢◌, ◌<◌, ◌+◌, ◌⊎◌, inl, inr, ℕ, zero, suc, true, false, List, [], ◌∷◌, ◌++◌, Some, length, refl, sym, ap, ◌∙◌, append_assoc, arith, eq-eqb, subst}
+use Rattle.std.specs.Prelude.{◌==◌, ◌&&◌, IsUtf8, flat_map, nat_lt, slice_get, slice_index_or}
 use Rattle.std.specs.Str.{is_utf8}
-use Rattle.std.proofs.lemmas.Bool.{and_parts, cases_Bool, ne_eqb}
+use Rattle.std.proofs.lemmas.Bool.{and_parts, cases_Bool}
 use Rattle.std.proofs.lemmas.Bool.Decides.{nat_tests}
 use Rattle.std.proofs.lemmas.Str.{is_utf8-from_IsUtf8, IsUtf8-from_is_utf8}
-use Rattle.gtfs_rows.specs.declared.place.Place.{Place}
 use Rattle.gtfs_rows.specs.declared.row_fault.RowFault.{RowFault}
 use Rattle.gtfs_rows.specs.declared.row_fault.RowFault.TheVariants as fault
 use Rattle.gtfs_rows.specs.declared.wanted.Column.{Column}
-use Rattle.gtfs_rows.specs.Faults.{column_faults, column_place, fault_if, file_place, record_faults, row_place, sheet_faults, times, width_fault, width_faults}
+use Rattle.gtfs_rows.specs.Faults.{column_faults, column_place, file_place, record_faults, row_place, sheet_faults, times, width_faults}
 use Rattle.gtfs_rows.specs.Records.{header_of, records_of, unmarked}
 use Rattle.gtfs_rows.specs.Refusals.{AreFine, IsFine}
 

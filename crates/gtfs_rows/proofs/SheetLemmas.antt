@@ -1,12 +1,12 @@
 -- The sheet of records, of which the first is the header.
-use Rattle.std.proofs.Common.{◌≡◌, ℕ, List, [], ◌∷◌, ◌++◌, Option, length, map, refl, ap, sym, ◌∙◌, eq-eqb}
-use Rattle.std.specs.Prelude.{◌==◌, flat_map}
+use Rattle.std.proofs.Common.{◌≡◌, ℕ, List, [], ◌∷◌, ◌++◌, Option, length, map, refl, ap, eq-eqb}
+use Rattle.std.specs.Prelude.{flat_map}
 use Rattle.std.proofs.lemmas.List.{length-map}
 use Rattle.gtfs_rows.specs.declared.row_fault.RowFault.{RowFault}
 use Rattle.gtfs_rows.specs.declared.wanted.Column.{Column}
 use Rattle.gtfs_rows.specs.Faults.{IsFirstFault, column_faults, record_faults, width_faults}
 use Rattle.gtfs_rows.specs.Records.{trimmed}
-use Rattle.gtfs_rows.specs.Sheets.{SheetData, field_in, place_of, row_of, sheet_of_records}
+use Rattle.gtfs_rows.specs.Sheets.{field_in, place_of, row_of, sheet_of_records}
 use Rattle.gtfs_rows.proofs.FaultLemmas.{is-first-behind, is-first-front}
 
 -- the faults of records are those of the columns, and then those of the rows

@@ -1,5 +1,5 @@
 -- All faults of a file as a sheet, in the order in which the first of them is answered. Here: docs/FORMATS.md.
-use Rattle.std.specs.Prelude.{◌≡◌, ◌⊎◌, ◌&&◌, ◌==◌, ◌+◌, ◌++◌, ℕ, Bool, true, false, not, List, [], ◌∷◌, Some, length, nat_lt, if◌then◌else◌, count_by, flat_map, slice_get}
+use Rattle.std.specs.Prelude.{◌≡◌, ◌⊎◌, ◌&&◌, ◌==◌, ◌++◌, ℕ, Bool, true, false, not, List, [], ◌∷◌, Some, length, nat_lt, if◌then◌else◌, count_by, flat_map, slice_get}
 use Rattle.std.specs.List.{enumerate_from}
 use Rattle.std.specs.Str.{bytes_eq, is_utf8}
 use Rattle.gtfs_rows.specs.declared.place.Place.{Place}

@@ -1,4 +1,3 @@
-use Rattle.std.proofs.Common.{◌∙◌}
 use Rattle.std.specs.Prelude.{option_map}
 use Rattle.gtfs_rows.specs.Fields.{ymd_of}
 use Rattle.gtfs_rows.proofs.DateLemmas.{date-is}

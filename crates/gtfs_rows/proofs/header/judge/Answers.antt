@@ -1,4 +1,4 @@
-use Rattle.std.proofs.Common.{◌∙◌, sym, inr}
+use Rattle.std.proofs.Common.{inr}
 use Rattle.gtfs_rows.proofs.FaultLemmas.{double-first, missing-first}
 use Rattle.gtfs_rows.proofs.header.judge.Goals as goal
 

@@ -1,4 +1,4 @@
-use Rattle.std.proofs.Common.{◌≡◌, ℕ, Bool, arith, false}
+use Rattle.std.proofs.Common.{ℕ, Bool, arith}
 use Rattle.std.proofs.Common.{eq-eqb}
 use Rattle.std.specs.Prelude.{◌==◌}
 use Rattle.gtfs_rows.proofs.PartLemmas.{before-at, behind-at, before-none, passes-at, none-passes}
