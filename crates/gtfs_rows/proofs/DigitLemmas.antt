@@ -70,9 +70,3 @@ number_is field n most given = elim (cases_Bool (is_number most field)) [
   | inl good ↦ let is : Some n ≡ Some (digits_value 10 field) = given ∙ rw good refl in (good, cc)
   | inr bad ↦ let none : Some n ≡ None = given ∙ rw bad refl in absurd (cc none)
 ]
-
-pub number_none : (field : List ℕ) (most : ℕ) → None ≡ number_in most field → is_number most field ≡ false
-number_none field most given = elim (cases_Bool (is_number most field)) [
-  | inl good ↦ let is : None ≡ Some (digits_value 10 field) = given ∙ rw good refl in absurd (cc is)
-  | inr bad ↦ bad
-]

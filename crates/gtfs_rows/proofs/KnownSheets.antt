@@ -1,5 +1,5 @@
 -- Sheets that were worked out by hand, which the definitions give.
-use Rattle.std.proofs.Common.{◌≡◌, [], ◌∷◌, ◌++◌, ℕ, List, Some, None, refl, true, false}
+use Rattle.std.proofs.Common.{◌≡◌, [], ◌∷◌, List, Some, refl, true, false}
 use Rattle.std.specs.Prelude.{codes, slice_get}
 use Rattle.csv.specs.Machine.{next_record}
 use Rattle.csv.specs.Reading.{records_from, strip_bom}

@@ -15,9 +15,6 @@ use Rattle.gtfs_rows.proofs.RowLemmas.{rows-push}
 pub left-some : (found : Bool) (left left2 : List (List (List ℕ))) (r : List (List ℕ)) → found ≡ true → left ≡ (if found then r ∷ left2 else []) → left ≡ r ∷ left2
 left-some found left left2 r e h = rw e at h
 
-pub left-none : (found : Bool) (left left2 : List (List (List ℕ))) (r : List (List ℕ)) → found ≡ false → left ≡ (if found then r ∷ left2 else []) → left ≡ []
-left-none found left left2 r e h = rw e at h
-
 -- a record as long as the first has no fault
 pub faults-more : (file : List ℕ) (width n : ℕ) (left left2 : List (List (List ℕ))) (r : List (List ℕ)) → left ≡ r ∷ left2 → length r ≡ width
     → width_faults file width (n + 1 + 2) (map (map trimmed) left2) ≡ width_faults file width (n + 2) (map (map trimmed) left)
