@@ -1,0 +1,6 @@
+use Rattle.std.proofs.Common.{◌≡◌, ◌<◌, ℕ, get_or, [], false}
+use Rattle.std.specs.Str.{bytes_eq}
+use Rattle.gtfs_rows.proofs.header.place_of.Given as goal
+
+abbrev pub invariant-loop-place : goal.invariant-loop-place
+invariant-loop-place l = (k : ℕ) → k < l.place → bytes_eq l.name (get_or l.header k []) ≡ false

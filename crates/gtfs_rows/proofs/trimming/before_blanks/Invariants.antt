@@ -1,0 +1,10 @@
+use Rattle.std.proofs.Common.{◌≡◌, length}
+use Rattle.std.specs.Prelude.{reverse}
+use Rattle.gtfs_rows.specs.Records.{drop_blanks}
+use Rattle.gtfs_rows.proofs.trimming.before_blanks.Given as goal
+
+abbrev pub invariant-loop-rest : goal.invariant-loop-rest
+invariant-loop-rest l = drop_blanks (reverse l.rest) ≡ drop_blanks (reverse l.fn.field)
+
+abbrev pub decreases-loop-rest : goal.decreases-loop-rest
+decreases-loop-rest l = length l.rest
