@@ -1,10 +1,10 @@
 //! A queue of fixed room: items with their numbers, as an indexed heap in flat arrays.
 
-ghost use Rattle.std.specs.Prelude.{◌≡◌, ◌+◌, ◌<◌, ◌≤◌, ◌-◌, ◌^◌, length, None, Some, IfOk, IfNone, IfSome, IsTrue, IsFalse, is_some, unwrap_or, slice_set, replicate, slice_index};
+ghost use Rattle.std.specs.Prelude.{◌≡◌, ◌+◌, ◌<◌, ◌≤◌, ◌-◌, ◌^◌, length, None, Some, IfOk, IfNone, IfSome, IsTrue, IsFalse, is_some, slice_set, replicate, slice_index};
 ghost use Rattle.label_setting.specs.Queue.{queued, IsFirst, IsEmpty, lesser_of};
 ghost use Rattle.label_setting.specs.Heap.{IsQueue, IsPlaced};
 
-use crate::heap::{sift_down, sift_up};
+use crate::heap::{number_of, sift_down, sift_up};
 use std::alloc::{AllocError, Global};
 use std::marker::Model;
 
@@ -208,16 +208,6 @@ fn take_from(numbers: &mut [Option<u64>], heap: &mut [u32], places: &mut [u32], 
     }
     sift_down(numbers, heap, places, end, 0);
     Taken { item, number }
-}
-
-// A number, 0 where there is none.
-fn number_of(number: Option<u64>) -> u64
-    ensures { result ≡ unwrap_or number 0 }
-{
-    match number {
-        Some(number) => number,
-        None => 0,
-    }
 }
 
 #[cfg(test)]

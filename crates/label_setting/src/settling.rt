@@ -55,6 +55,7 @@ pub fn mark(net: &Network, node: u32, label: u64, state: &mut Settling)
     ensures settled { IsSettledBy net.now node label state.old state.new }
     ensures made { IsMadeFor net.now state.new }
 {
+    // No more nodes are settled than there may be.
     let _nodes = net.nodes();
     let place = node as usize;
     state.labels[place] = label;
@@ -136,6 +137,7 @@ fn item(net: &Network, node: u32) -> u32
     requires { node < net.now.nodes }
     ensures { result ≡ item_of net.now node }
 {
+    // A node's number is below how many nodes there may be.
     let _nodes = net.nodes();
     net.arcs() + node
 }

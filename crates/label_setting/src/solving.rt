@@ -72,6 +72,7 @@ fn reset(net: &Network, state: &mut Settling)
     state.weights.fill(0);
     state.totals.fill(0);
     state.settled = 0;
+    // There are no more marks than nodes may be.
     let _nodes = net.nodes();
 }
 

@@ -128,6 +128,7 @@ fn load_node(
             volumes[arc as usize] = units;
         }
         Choice::Wait { count, weight } => {
+            // A node has no more arcs than there may be.
             let _few = net.arcs();
             let first = net.first(node);
             let many = net.out(node).len() as u32;

@@ -64,7 +64,10 @@ fn remainder_of(units: u64, weight: u32, all: u64, whole: u64) -> u64
     requires whole { whole ≡ units * weight / all }
     ensures value { result ≡ units * weight % all }
 {
-    (units as u128 * weight as u128 - whole as u128 * all as u128) as u64
+    match units.checked_mul(weight as u64) {
+        Some(product) => product - whole * all,
+        None => (units as u128 * weight as u128 - whole as u128 * all as u128) as u64,
+    }
 }
 
 // What the whole part leaves at a place.
@@ -186,6 +189,15 @@ mod tests {
                 "{units} over {weights:?}"
             );
         }
+        // Slices of one and of two places.
+        let mut out = [9; 2];
+        let mut scratch = [9; 2];
+        split(10, &[6000, 4000], &mut out, &mut scratch);
+        assert_eq!(rt; out, [6, 4]);
+        let mut out = [9; 1];
+        let mut scratch = [9; 1];
+        split(0, &[7], &mut out, &mut scratch);
+        assert_eq!(rt; out, [0]);
         Ok(())
     }
 

@@ -48,3 +48,27 @@ pub struct Totals {
     /// The volumes of each arc, added up.
     pub volumes: Volumes,
 }
+
+#[cfg(test)]
+mod tests {
+    use super::{Totals, Volumes};
+    use std::test::Fail;
+
+    #[test]
+    fn volumes_and_totals_hold_what_they_are_made_of(rt: HostRuntime) -> Result<(), Fail> {
+        let volumes = Volumes::new(vec![in rt.alloc(); 3u64, 0, 5]?);
+        assert_eq!(rt; volumes.as_slice(), [3, 0, 5].as_slice());
+        let totals = Totals {
+            units: 8,
+            destinations: 2,
+            cost: 21,
+            bound: 20,
+            slack: 4,
+            volumes,
+        };
+        assert_eq!(rt; totals.volumes.as_slice(), [3, 0, 5].as_slice());
+        assert_eq!(rt; (totals.units, totals.destinations), (8, 2));
+        assert_eq!(rt; (totals.cost, totals.bound, totals.slack), (21, 20, 4));
+        Ok(())
+    }
+}

@@ -27,6 +27,7 @@ fn wait_at(net: &Network, volumes: &[u64], node: u32) -> u128
     ensures enough { IsLongEnough net.now volumes.now node result }
     ensures least { (wait : ℕ) → IsLongEnough net.now volumes.now node wait → result ≤ wait }
 {
+    // A node has no more arcs than there may be.
     let _few = net.arcs();
     let first = net.first(node);
     let count = net.out(node).len() as u32;
@@ -68,6 +69,9 @@ fn rounded_up(k: u64, volume: u64, weight: u32) -> u128
     ensures enough { k * volume ≤ weight * result }
     ensures least { (wait : ℕ) → k * volume ≤ weight * wait → result ≤ wait }
 {
+    if volume == 0 {
+        return 0;
+    }
     match k.checked_mul(volume) {
         Some(product) => product.div_ceil(weight as u64) as u128,
         None => (k as u128 * volume as u128).div_ceil(weight as u128),

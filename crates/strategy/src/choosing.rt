@@ -26,6 +26,7 @@ pub fn choose(net: &Network, labels: &[u64], reached: &[bool], dest: u32, node: 
     if node == dest || !reached[node as usize] {
         return Choice::Stop;
     }
+    // A node has no more arcs than there may be.
     let _few = net.arcs();
     let first = net.first(node);
     let count = net.out(node).len() as u32;

@@ -10,7 +10,7 @@ ghost use Rattle.definitions.specs.Labels.{SolvesLabels, IsOrder};
 use super::*;
 use label_setting::labels;
 use lp_model::NetArc;
-use plain::{lost, reach_of, volumes_of, waits_of};
+use plain::{is_reached, lost, reach_of, volumes_of, waits_of};
 use std::test::Fail;
 
 fn arc(tail: u32, head: u32, cost: u32, weight: Option<u32>) -> NetArc {
@@ -51,7 +51,8 @@ fn small_networks_have_the_loads_of_their_equations(rt: HostRuntime) -> Result<(
     let back = arc(1, 0, 1, None);
     let line = |cost, weight| arc(0, 1, cost, Some(weight));
     let cases = [
-        // Label 899999: the wait of 300000 and the ride. The other line leads on in just that.
+        // (1800000000 + 6000 * 600000 + 4000 * 899999) / 10000 = 899999.6; shares 0.6 and 0.4;
+        // 1800000000 / 6000 to wait.
         (
             [line(600_000, 6000), line(899_999, 4000), back],
             1,
@@ -168,6 +169,14 @@ impl Dice {
         }
         Ok(arcs)
     }
+
+    // The demand of a node: none where it has to be without.
+    fn demand(&mut self, without: bool) -> u64
+        ensures { result < 9 }
+    {
+        let units = self.roll(9) as u64;
+        if without { 0 } else { units }
+    }
 }
 
 // Whether the loads of a network with node 4 as the destination are those of the plain program.
@@ -183,7 +192,7 @@ fn agrees(alloc: Global, arcs: Vec<NetArc>, k: u64, demand: &[u64]) -> Result<bo
     is_plain(alloc, &arcs, k, ws.labels(), demand, loaded.err(), &loads)
 }
 
-// Whether an answer and loads are those of the plain program.
+// Whether an answer and loads are those of the plain program: after a refusal all are 0.
 fn is_plain(
     alloc: Global,
     arcs: &[NetArc],
@@ -195,7 +204,12 @@ fn is_plain(
 ) -> Result<bool, Fail> {
     let reached = reach_of(alloc, arcs, 5, 4)?;
     if let Some(node) = lost(demand, &reached) {
-        return Ok(fault == Some(Unreachable { node }));
+        let volumes = vec![in alloc; 0u64; arcs.len()]?;
+        return Ok(
+            fault == Some(Unreachable { node })
+                && loads.volumes() == volumes.as_slice()
+                && loads.waits() == [0u128; 5].as_slice(),
+        );
     }
     let volumes = volumes_of(alloc, arcs, 5, 4, labels, &reached, demand)?;
     let waits = waits_of(alloc, arcs, 5, k, &volumes)?;
@@ -209,11 +223,17 @@ fn is_plain(
 #[test]
 fn random_networks_have_the_loads_of_a_plain_program(rt: HostRuntime) -> Result<(), Fail> {
     let mut dice = Dice { state: 7 };
-    for round in 0..400 {
+    for round in 0..400u32 {
         let arcs = dice.arcs(rt.alloc())?;
         let k = dice.roll(12) as u64;
-        let [one, two, three, four] = [dice.roll(9), dice.roll(9), dice.roll(9), dice.roll(9)];
-        let demand = [one as u64, two as u64, three as u64, four as u64, 0];
+        // In half of the rounds there is demand at nodes alone that reach.
+        let reached = reach_of(rt.alloc(), &arcs, 5, 4)?;
+        let without = |node| round % 2 == 0 && !is_reached(&reached, node);
+        let one = dice.demand(without(0));
+        let two = dice.demand(without(1));
+        let three = dice.demand(without(2));
+        let four = dice.demand(without(3));
+        let demand = [one, two, three, four, 0];
         assert!(rt; agrees(rt.alloc(), arcs, k, &demand)?, "round {round}");
     }
     Ok(())

@@ -8,7 +8,8 @@ fn at(numbers: &[u64], place: u32) -> u64 {
     numbers.get(place as usize).copied().unwrap_or(0)
 }
 
-fn is_reached(reached: &[bool], node: u32) -> bool {
+/// Whether a node reaches.
+pub fn is_reached(reached: &[bool], node: u32) -> bool {
     reached.get(node as usize).copied().unwrap_or(false)
 }
 
