@@ -108,38 +108,4 @@ impl Gathered {
 }
 
 #[cfg(test)]
-mod tests {
-    use super::*;
-    use crate::memory_sink::MemorySink;
-    use std::test::Fail;
-
-    // Texts of these lengths, of the letters a, b, .., into so much room: the bytes that are
-    // written, and the answer to the last call. 4,096 bytes wait at most.
-    #[test]
-    fn texts_arrive_in_order(rt: HostRuntime) -> Result<(), Fail> {
-        let cases: [(&[usize], usize, Result<(), usize>); 6] = [
-            (&[], 10_000, Ok(())),
-            (&[3, 0, 2], 10_000, Ok(())),
-            (&[4000, 96, 1], 10_000, Ok(())),
-            (&[10, 5000, 20], 10_000, Ok(())),
-            (&[3, 4], 5, Err(5)),
-            (&[10, 5000, 20], 5009, Err(5009)),
-        ];
-        for (lengths, room, answer) in cases {
-            let mut sink = MemorySink::new(rt.alloc(), room, 1000, Vec::new(rt.alloc()))?;
-            let mut whole = Vec::new(rt.alloc());
-            let mut gathered = Gathered::new();
-            let mut got = Ok(());
-            for (i, length) in lengths.iter().enumerate() {
-                let text = vec![in rt.alloc(); b'a' + i as u8; *length]?;
-                whole.extend_from_slice(&text)?;
-                got = got.and(gathered.write(&mut sink, &text));
-            }
-            got = got.and(gathered.flush(&mut sink));
-            assert_eq!(rt; got.map_err(|fault| fault.sent), answer, "{room}");
-            let sent = answer.err().unwrap_or(whole.len());
-            assert_eq!(rt; sink.bytes(), &whole[..sent], "{room}");
-        }
-        Ok(())
-    }
-}
+mod tests;
