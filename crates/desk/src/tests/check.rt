@@ -28,14 +28,14 @@ end
 
 /// What a run answered and wrote.
 #[derive(Drop)]
-struct Ran {
-    status: Status,
-    out: MemorySink,
-    err: MemorySink,
+pub struct Ran {
+    pub status: Status,
+    pub out: MemorySink,
+    pub err: MemorySink,
 }
 
-// Runs the words over a folder with one file, whose calls of these numbers fail. `room` is that of the output.
-fn run_words(
+/// Runs the words over a folder with one file, whose calls of these numbers fail. `room` is that of the output.
+pub fn run_words(
     rt: &(impl Abort + AllocGlobal),
     words: &[&str],
     file: (&str, &str),
@@ -51,8 +51,8 @@ fn run_words(
     )
 }
 
-// Runs the words over a folder. `room` is that of the output.
-fn run_over(
+/// Runs the words over a folder. `room` is that of the output.
+pub fn run_over(
     rt: &(impl Abort + AllocGlobal),
     words: &[&str],
     mut folder: MemoryFolder,
@@ -69,8 +69,8 @@ fn run_over(
     Ok(Ran { status, out, err })
 }
 
-// A folder with one file, of which one read gives at most `step` bytes.
-fn folder_of(
+/// A folder with one file, of which one read gives at most `step` bytes.
+pub fn folder_of(
     rt: &(impl Abort + AllocGlobal),
     path: &str,
     bytes: Blob,
@@ -189,8 +189,13 @@ fn a_text_that_ends_early_is_refused_at_its_end(rt: HostRuntime) -> Result<(), F
     Ok(())
 }
 
-// The text with another line in place of one.
-fn replaced(alloc: Global, text: &str, line: &str, changed: &str) -> Result<String, AllocError> {
+/// The text with another line in place of one.
+pub fn replaced(
+    alloc: Global,
+    text: &str,
+    line: &str,
+    changed: &str,
+) -> Result<String, AllocError> {
     let mut made = String::new(alloc);
     match text.split_once(line) {
         Some((before, after)) => {
