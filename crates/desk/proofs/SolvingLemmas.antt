@@ -1,18 +1,10 @@
--- Labels, volumes and waits that were found are the solution of a problem; its certificate is valid, and its cost within its slack.
-use Rattle.std.proofs.Common.{ℕ, ◌≤◌, Bool, List, sum, Option, inl, inr, sym, subst, ◌∙◌, arith, get_or}
-use Rattle.std.specs.List.{All}
-use Rattle.std.proofs.lemmas.Bool.{cases_lt, ne_eqb, false≢true}
-use Rattle.definitions.specs.declared.limits.TheConstants.{LABEL_LIMIT, WAIT_LIMIT}
-use Rattle.definitions.specs.Plan.{IsPlan}
-use Rattle.definitions.specs.Dual.{IsDualFeasible}
-use Rattle.definitions.specs.Reach.{IsReach}
-use Rattle.definitions.specs.Labels.{SolvesLabels}
-use Rattle.definitions.specs.Volumes.{SolvesVolumes, AreLeastWaits}
+-- The cost of the certificate of a problem is within its slack of the bound.
+use Rattle.std.proofs.Common.{ℕ, List, sum, Option, inl, inr, sym, subst, arith}
+use Rattle.std.proofs.lemmas.Bool.{cases_lt, ne_eqb}
 use Rattle.definitions.specs.Gap.{IsLoaded, IsEnoughForEach}
 use Rattle.definitions.specs.Totals.{longest_wait}
 use Rattle.definitions.proofs.TotalsLemmas.{longest_wait-enough}
 use Rattle.definitions.proofs.GapLemmas.{gap_within_slack, no_units_cost_nothing}
-use Rattle.loading.specs.Loads.{AllReach}
 use Rattle.certificate.specs.NetworkText.{ProblemData}
 use Rattle.certificate.specs.NetworkRefusals.{IsProblem}
 use Rattle.certificate.specs.Spelling.{Certificate}
@@ -20,46 +12,6 @@ use Rattle.certificate.specs.Valid.{IsValid}
 use Rattle.desk.specs.Command.{Command}
 use Rattle.desk.specs.Read.{Files}
 use Rattle.desk.specs.Solved.{IsSolution, IsSolved, IsWithinSlack, PrintsCertificate, certificate_with}
-
-pub solution_of : (p : ProblemData) (reached : List Bool) (u v w : List ℕ) → IsProblem p → IsReach p.network p.destination reached → SolvesLabels p.network p.destination reached u →
-    AllReach p.network p.destination p.demand → SolvesVolumes p.network p.destination reached u p.demand v → AreLeastWaits p.network v w → IsSolution p u v w
-solution_of p reached u v w rules reach labels all volumes waits = record {
-  reached = reached;
-  reach = reach;
-  solves_labels = labels;
-  carried = record {
-    demand_per_node = rules.demand_per_node;
-    none_at_destination = rules.no_demand_at_destination;
-    only_reaching = λ node lt off. elim (cases_lt 0 (get_or p.demand node 0)) [
-      | inl some ↦ absurd (false≢true (sym off ∙ (reach.exact node lt).1 (all node lt some)))
-      | inr none ↦ omega arith
-    ];
-  };
-  solves_volumes = volumes;
-  least_waits = waits;
-}
-
-pub valid_of : (p : ProblemData) (u v w : List ℕ) → IsProblem p → All (λ label. label ≤ LABEL_LIMIT) u → All (λ volume. volume ≤ sum p.demand) v → All (λ wait. wait ≤ WAIT_LIMIT) w →
-    IsPlan p.network p.destination 1 p.demand v w → IsDualFeasible p.network p.destination u → IsValid (certificate_with p u v w)
-valid_of p u v w rules labels volumes waits plan dual = record {
-  lines = record {
-    network = rules.network;
-    destination = rules.destination;
-    demand_per_node = rules.demand_per_node;
-    no_demand_at_destination = rules.no_demand_at_destination;
-    units = rules.units;
-    label_per_node = dual.label_per_node;
-    labels = labels;
-    volume_per_arc = plan.flow_per_arc;
-    volumes = λ a d lt. (let within = volumes a d lt in let few = rules.units in omega arith);
-    wait_per_node = plan.wait_per_node;
-    waits = waits;
-  };
-  plan = plan;
-  dual = dual;
-}
-
--- ---- the gap
 
 of_problem : (p : ProblemData) (u v w : List ℕ) → IsProblem p → IsSolution p u v w → IsWithinSlack (certificate_with p u v w)
 of_problem p u v w rules s =

@@ -1,5 +1,7 @@
 //! Runs of `check`.
 
+ghost use Rattle.std.specs.Prelude.{◌<◌};
+
 mod outside;
 
 use crate::run::run;
@@ -76,7 +78,9 @@ pub fn folder_of(
     bytes: Blob,
     step: usize,
     failing: &[u64],
-) -> Result<MemoryFolder, AllocError> {
+) -> Result<MemoryFolder, AllocError>
+    requires step { 0 < step }
+{
     let alloc = rt.alloc();
     let path = Name::new(String::from_str(alloc, path)?);
     let mut files = Vec::new(alloc);
