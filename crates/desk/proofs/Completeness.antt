@@ -1,4 +1,4 @@
--- Each command has an outcome over a folder's files, and where no count rose it is answered.
+-- Each command but `solve` has an outcome over a folder's files, and where no count rose it is answered.
 use Rattle.std.proofs.Common.{◌≡◌, ℕ, ◌+◌, List, [], ◌⊎◌, inl, inr, length, Option, None, Some, refl}
 use Rattle.std.specs.Prelude.{IfSome}
 use Rattle.std.proofs.lemmas.Bool.{cases_lt}
@@ -12,10 +12,11 @@ use Rattle.certificate.proofs.NeverMemory.{never_memory, never_valid}
 use Rattle.desk.specs.declared.status.Limit.TheVariants.{File}
 use Rattle.desk.specs.declared.status.UsageFault.TheVariants.{Words, NoFile}
 use Rattle.desk.specs.declared.status.Cause.{Cause}
-use Rattle.desk.specs.declared.status.Cause.TheVariants.{Done, Usage, Range, ReadFault, WriteFault, NoMemory, Refused}
-use Rattle.desk.specs.Command.{Command, Check}
+use Rattle.desk.specs.declared.status.Cause.TheVariants.{Done, Usage, Range, ReadFault, WriteFault, NoMemory, Refused, Unreachable}
+use Rattle.desk.specs.Command.{Command, Check, Solve}
 use Rattle.desk.specs.Output.{verdict_lines}
-use Rattle.desk.specs.Outcome.{Files, IsRead, LiesOutside, IsOutcome, DidNotRise, Completes}
+use Rattle.desk.specs.Read.{Files, IsRead}
+use Rattle.desk.specs.Outcome.{LiesOutside, IsOutcome, DidNotRise, IsDueAnswered, IsOutcomeAnswered, Completes}
 use Rattle.desk.proofs.OneOutcome.{only}
 
 -- ---- each command has an outcome
@@ -45,9 +46,8 @@ of_file files path (Some bytes) here = elim (cases_lt FILE_LIMIT (length bytes))
   | inr few ↦ of_text files path bytes (record { path = path; is = refl; file = here; within = few }) (answered bytes)
 ]
 
-each_outcome : (files : List (List ℕ × List ℕ)) (command : Option Command) → HasOutcome files command
-each_outcome files None = record { cause = Usage Words; output = []; comes = (refl, refl) }
-each_outcome files (Some (Check path)) = of_file files path (file_at files path) refl
+no_command : (files : List (List ℕ × List ℕ)) → HasOutcome files None
+no_command files = record { cause = Usage Words; output = []; comes = (refl, refl) }
 
 -- ---- a run
 
@@ -58,20 +58,34 @@ inside (Range limit count) Read Wrote out reads writes folder output = absurd ou
 inside ReadFault Read Wrote out reads writes folder output = absurd (folder (reads refl))
 inside (WriteFault sent) Read Wrote out reads writes folder output = absurd (output (writes sent refl))
 inside NoMemory Read Wrote out reads writes folder output = refl
+inside (Unreachable unreached) Read Wrote out reads writes folder output = absurd out
 inside (Refused fault) Read Wrote out reads writes folder output = absurd out
+
+-- what is said of a run, by where its cause lies
+abbrev Ended : List (List ℕ × List ℕ) → Option Command → Cause → Option (List ℕ) → Option (List ℕ) → Type 0
+Ended told command cause old new = LiesOutside cause ⊎ ((output : List ℕ) × IsOutcome told command cause output × Appends old new output)
+
+-- a command that has an outcome
+due : (told : List (List ℕ × List ℕ)) (command : Option Command) (cause : Cause) (old new : Option (List ℕ)) → HasOutcome told command → Ended told command cause old new → (LiesOutside cause → cause ≡ NoMemory) →
+    IsDueAnswered told command cause old new
+due told command cause old new h (inl out) within = record { due = h.cause; output = h.output; outcome = only told command h.cause h.output h.comes; answered = inl (within out) }
+due told command cause old new h (inr k) within = record { due = cause; output = k.0; outcome = only told command cause k.0 k.1; answered = inr (refl, k.2) }
+
+-- a command of which the one outcome that comes is known
+known : (told : List (List ℕ × List ℕ)) (command : Option Command) (cause : Cause) (old new : Option (List ℕ)) → Ended told command cause old new → (LiesOutside cause → cause ≡ NoMemory) →
+    (cause ≡ NoMemory) ⊎ IsOutcomeAnswered told command cause old new
+known told command cause old new (inl out) within = inl (within out)
+known told command cause old new (inr k) within = inr (record { output = k.0; outcome = only told command cause k.0 k.1; appended = k.2 })
+
+of_command : (told : List (List ℕ × List ℕ)) (command : Option Command) (cause : Cause) (old new : Option (List ℕ)) → Ended told command cause old new → (LiesOutside cause → cause ≡ NoMemory) → Completes told command cause old new
+of_command told None cause old new h within = due told None cause old new (no_command told) h within
+of_command told (Some (Check path)) cause old new h within = due told (Some (Check path)) cause old new (of_file told path (file_at told path) refl) h within
+of_command told (Some (Solve path)) cause old new h within = known told (Some (Solve path)) cause old new h within
 
 pub complete : (files : Files) (command : Option Command) (cause : Cause) (folder_old folder_new out_old out_new : ℕ) (old new : Option (List ℕ)) →
     IfSome files (λ told. LiesOutside cause ⊎ ((output : List ℕ) × IsOutcome told command cause output × Appends old new output)) →
     (cause ≡ ReadFault → Rose folder_old folder_new) → ((sent : ℕ) → cause ≡ WriteFault sent → Rose out_old out_new) →
     DidNotRise folder_old folder_new → DidNotRise out_old out_new → IfSome files (λ told. Completes told command cause old new)
 complete None command cause folder_old folder_new out_old out_new old new h reads writes folder output = tt
-complete (Some told) command cause folder_old folder_new out_old out_new old new (inl out) reads writes folder output =
-    let h = each_outcome told command in
-    record {
-      due = h.cause;
-      output = h.output;
-      outcome = only told command h.cause h.output h.comes;
-      answered = inl (inside cause (Rose folder_old folder_new) (Rose out_old out_new) out reads writes folder output);
-    }
-complete (Some told) command cause folder_old folder_new out_old out_new old new (inr h) reads writes folder output =
-    record { due = cause; output = h.0; outcome = only told command cause h.0 h.1; answered = inr (refl, h.2) }
+complete (Some told) command cause folder_old folder_new out_old out_new old new h reads writes folder output =
+    of_command told command cause old new h (λ out. inside cause (Rose folder_old folder_new) (Rose out_old out_new) out reads writes folder output)

@@ -11,14 +11,15 @@ use Rattle.certificate.specs.Fed.{CheckerData, bytes_so_far, IsRefusedForGood}
 use Rattle.certificate.specs.Refusals.{IsRefusedWith, HasFaultyLine}
 use Rattle.certificate.specs.Valid.{IsNoCertificate, IsOnly, NoPlanIsCheaperIn}
 use Rattle.desk.specs.declared.status.Cause.{Cause}
-use Rattle.desk.specs.declared.status.Cause.TheVariants.{Done, Usage, Range, ReadFault, WriteFault, NoMemory, Refused as RefusedCause}
+use Rattle.desk.specs.declared.status.Cause.TheVariants.{Done, Usage, Range, ReadFault, WriteFault, NoMemory, Refused as RefusedCause, Unreachable}
 use Rattle.desk.specs.Command.{Check}
 use Rattle.desk.specs.Ends.{Reads, Unchecked}
 use Rattle.desk.specs.Fed.{HasRead, IsFed, Unfed}
-use Rattle.desk.specs.Outcome.{Files, IsRead, IsChecked, IsRefused}
+use Rattle.desk.specs.Read.{Files, IsRead}
+use Rattle.desk.specs.Outcome.{IsChecked, IsRefusedCertificate}
 
 -- the whole file was read
-whole_file : (files : Files) (left : Option (List ℕ)) (path bytes : List ℕ) →
+pub whole_file : (files : Files) (left : Option (List ℕ)) (path bytes : List ℕ) →
     IfSome files (λ told. IsSome (file_at told path)) → IfSome files (λ told. left ≡ file_at told path) → IfSome left (λ told. bytes ≡ told) →
     IfSome files (λ told. file_at told path ≡ Some bytes)
 whole_file None left path bytes found begun read = tt
@@ -26,7 +27,7 @@ whole_file (Some told) None path bytes found begun read = absurd (let e : is_som
 whole_file (Some told) (Some rest) path bytes found begun read = sym begun ∙ ap (λ b. Some b) (sym read)
 
 -- the file is longer than the limit
-long_file : (files : Files) (left : Option (List ℕ)) (path : List ℕ) (limit : ℕ) →
+pub long_file : (files : Files) (left : Option (List ℕ)) (path : List ℕ) (limit : ℕ) →
     IfSome files (λ told. IsSome (file_at told path)) → IfSome files (λ told. left ≡ file_at told path) → IfSome left (λ told. limit < length told) →
     IfSome files (λ told. (bytes : List ℕ) × (file_at told path ≡ Some bytes) × (limit < length bytes))
 long_file None left path limit found begun long = tt
@@ -88,7 +89,7 @@ bad_text checker bytes result answer h is not_memory same why only = by checker.
 pub file_refused : (files : Files) (left : Option (List ℕ)) (path : List ℕ) (checker : CheckerData) (result : Result Verdict Refused) (answer : Refused) →
     IfSome files (λ told. IsSome (file_at told path)) → IfSome files (λ told. left ≡ file_at told path) → IsFed left checker → result ≡ Err answer → answer ≢ refused.NoMemory →
     ((said : Refused) → checker.refused ≡ Some said → result ≡ Err said) → (checker.refused ≡ None → IfErr result (IsRefusedWith (bytes_so_far checker))) → (checker.refused ≡ None → IsOnly (bytes_so_far checker) result) →
-    IsRefused files (Some (Check path)) answer
+    IsRefusedCertificate files (Some (Check path)) answer
 file_refused files left path checker result answer found begun fed is not_memory same why only =
     let bad : IsBad fed.bytes answer = bad_text checker fed.bytes result answer fed.read is not_memory same why only in
     record {
@@ -108,4 +109,5 @@ file_unread reads left path mid (Range limit count) found begun low high h = (h.
 file_unread reads left path mid ReadFault found begun low high h = λ same. (let one : reads.new_count ≡ mid = omega arith in let last = h one in omega arith)
 file_unread reads left path mid (WriteFault sent) found begun low high h = h
 file_unread reads left path mid NoMemory found begun low high h = tt
+file_unread reads left path mid (Unreachable unreached) found begun low high h = absurd h
 file_unread reads left path mid (RefusedCause fault) found begun low high h = absurd h

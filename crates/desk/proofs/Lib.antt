@@ -1,5 +1,9 @@
 pub mod FileLemmas
 pub mod PrintLemmas
 pub mod FeedLemmas
+pub mod OneVerdict
+pub mod OneCertificate
 pub mod OneOutcome
+pub mod SolvingLemmas
+pub mod EndLemmas
 pub mod Completeness

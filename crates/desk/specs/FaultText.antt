@@ -14,8 +14,10 @@ use Rattle.desk.specs.declared.status.Limit.{Limit}
 use Rattle.desk.specs.declared.status.Limit.TheVariants as limit
 use Rattle.desk.specs.declared.status.UsageFault.{UsageFault}
 use Rattle.desk.specs.declared.status.UsageFault.TheVariants.{Words, NoFile}
+use Rattle.desk.specs.declared.status.Unreached.{Unreached}
+use Rattle.desk.specs.declared.status.Unreached.TheVariants.{Node}
 use Rattle.desk.specs.declared.status.Cause.{Cause}
-use Rattle.desk.specs.declared.status.Cause.TheVariants.{Done, Usage, Range, ReadFault, WriteFault, NoMemory, Refused}
+use Rattle.desk.specs.declared.status.Cause.TheVariants.{Done, Usage, Range, ReadFault, WriteFault, NoMemory, Refused, Unreachable}
 
 -- a byte as it is shown: `?` stands for those outside the printable ASCII characters
 abbrev pub shown_byte : ℕ → ℕ
@@ -80,10 +82,15 @@ abbrev pub usage_text : UsageFault → List (List ℕ)
 usage_text Words = codes "error 2: usage words" ∷ line_end ∷ []
 usage_text (NoFile path) = codes "error 2: usage no file " ∷ shown path ∷ line_end ∷ []
 
+-- the fault text of demand that does not reach
+abbrev pub unreached_text : Unreached → List (List ℕ)
+unreached_text (Node node) = codes "error 6: unreachable node " ∷ numeral node ∷ line_end ∷ []
+
 -- the fault text of a cause, none where the run is done
 abbrev pub cause_text : Cause → List (List ℕ)
 cause_text Done = []
 cause_text (Usage fault) = usage_text fault
+cause_text (Unreachable unreached) = unreached_text unreached
 cause_text (Range limit count) = codes "error 7: range " ∷ limit_name limit ∷ codes " " ∷ numeral count ∷ line_end ∷ []
 cause_text ReadFault = codes "error 8: read fault" ∷ line_end ∷ []
 cause_text (WriteFault sent) = codes "error 9: write fault " ∷ numeral sent ∷ line_end ∷ []

@@ -4,6 +4,8 @@ pub mod Output
 pub mod FaultText
 pub mod Pieces
 pub mod Printing
+pub mod Read
+pub mod Solved
 pub mod Outcome
 pub mod Ends
 pub mod Fed

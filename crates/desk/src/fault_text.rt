@@ -2,14 +2,14 @@
 
 ghost use Rattle.std.specs.Prelude.{◌≡◌};
 ghost use Rattle.std.specs.List.{concat};
-ghost use Rattle.desk.specs.FaultText.{fault_text, usage_text};
+ghost use Rattle.desk.specs.FaultText.{fault_text, unreached_text, usage_text};
 ghost use Rattle.desk.specs.Printing.{Prints};
 
 mod limits;
 mod refused;
 
 use crate::pieces::{Piece, write_numbered, write_pieces};
-use crate::status::{Cause, UsageFault};
+use crate::status::{Cause, Unreached, UsageFault};
 use desk_io::{Failed, Sink};
 use limits::limit_name;
 use refused::write_refused;
@@ -23,6 +23,7 @@ pub fn write_fault_text<E: Sink>(err: &mut E, cause: &Cause) -> Result<(), Faile
     match cause {
         Cause::Done => Ok(()),
         Cause::Usage(fault) => write_usage(err, fault),
+        Cause::Unreachable(unreached) => write_unreached(err, *unreached),
         Cause::Range(limit, count) => {
             let name = limit_name(*limit);
             write_pieces(
@@ -69,5 +70,22 @@ fn write_usage<E: Sink>(err: &mut E, fault: &UsageFault) -> Result<(), Failed>
                 ],
             )
         }
+    }
+}
+
+// Writes the fault text of demand that does not reach.
+fn write_unreached<E: Sink>(err: &mut E, unreached: Unreached) -> Result<(), Failed>
+    ensures prints { Prints (E.count err.old) (E.count err.new) (E.written err.old) (E.written err.new) (concat (unreached_text unreached)) }
+{
+    let node = node_of(unreached);
+    write_numbered(err, "error 6: unreachable node ", node as u128)
+}
+
+// The node whose demand does not reach.
+fn node_of(unreached: Unreached) -> u32
+    ensures node { unreached ≡ Unreached.Node result }
+{
+    match unreached {
+        Unreached::Node(node) => node,
     }
 }

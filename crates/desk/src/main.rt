@@ -1,10 +1,12 @@
 //! The transit assignment desk: a program over the files of a folder.
 #![tactic(auto)]
 
+mod checking;
 mod fault_text;
 mod feeding;
 mod pieces;
 mod run;
+mod solving;
 mod status;
 #[cfg(test)]
 mod tests;

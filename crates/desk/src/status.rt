@@ -1,10 +1,12 @@
 //! How a run ends.
 
 ghost use Rattle.std.specs.Prelude.{◌≡◌};
+ghost use Rattle.desk.specs.Ends.{NamesPath};
 ghost use Rattle.desk.specs.Status.{code_of};
 
 use certificate::Refused;
 use desk_io::Name;
+use std::alloc::Global;
 
 /// How a run ended: the exit code of the program, and why.
 #[derive(Drop)]
@@ -19,14 +21,16 @@ pub enum Cause {
     /// The whole output was written.
     Done,
     Usage(UsageFault),
-    /// A limit was passed, other than inside a text that is checked: the limit, and the count that passed it.
+    /// Some demand does not reach its destination: the first, as the command reads it.
+    Unreachable(Unreached),
+    /// A limit was passed, other than inside a text that is checked or solved: the limit, and the count that passed it.
     Range(Limit, u128),
     /// The folder failed.
     ReadFault,
     /// The output failed after so many of its bytes.
     WriteFault { sent: usize },
     NoMemory,
-    /// The text is no valid certificate.
+    /// The text is no valid certificate, or no network text.
     Refused(Refused),
 }
 
@@ -37,6 +41,13 @@ pub enum UsageFault {
     Words,
     /// A file that they name is not there.
     NoFile(Name),
+}
+
+/// Demand that does not reach its destination.
+#[derive(Clone, Copy, Debug, Drop, PartialEq, Eq)]
+pub enum Unreached {
+    /// That of this node, in the problem of a network text.
+    Node(u32),
 }
 
 /// A limit of a run. docs/FORMATS.md has their values.
@@ -53,6 +64,7 @@ impl Status {
         let code = match &cause {
             Cause::Done => 0,
             Cause::Usage(_) => 2,
+            Cause::Unreachable(_) => 6,
             Cause::Range(_, _) => 7,
             Cause::ReadFault => 8,
             Cause::WriteFault { .. } => 9,
@@ -60,5 +72,17 @@ impl Status {
             Cause::Refused(_) => 12,
         };
         Status { code, cause }
+    }
+}
+
+impl Cause {
+    /// The usage fault of a file that is not there, or want of memory for its path.
+    pub fn no_file(alloc: Global, path: &str) -> Cause
+        ensures cause { NamesPath path.now result }
+    {
+        match String::from_str(alloc, path) {
+            Ok(name) => Cause::Usage(UsageFault::NoFile(Name::new(name))),
+            Err(_) => Cause::NoMemory,
+        }
     }
 }

@@ -1,3 +1,4 @@
 //! Whole runs over objects in memory, one file a command.
 
 mod check;
+mod solve;

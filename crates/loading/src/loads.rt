@@ -7,7 +7,7 @@ ghost use Rattle.definitions.specs.Reach.{IsReach};
 ghost use Rattle.definitions.specs.Labels.{SolvesLabels, IsOrder};
 ghost use Rattle.definitions.specs.Volumes.{SolvesVolumes, AreLeastWaits};
 ghost use Rattle.loading.specs.Marks.{AllMarked, IsFirstUnmarked};
-ghost use Rattle.loading.specs.Loads.{nothing_loaded, HasRoomFor, AllReach, IsFirstUnreachable};
+ghost use Rattle.loading.specs.Loads.{nothing_loaded, HasRoomFor, AllReach, IsFirstUnreachable, IsWithinParts};
 
 use crate::carrying::load_all;
 use crate::waiting::set_waits;
@@ -105,6 +105,7 @@ pub fn load(
     ensures volumes { OnOk result (SolvesVolumes net.now dest ws.now.reached ws.now.labels demand.now loads.new.volumes) }
     ensures waits { OnOk result (AreLeastWaits net.now loads.new.volumes loads.new.waits) }
     ensures plan { OnOk result (IsPlan net.now dest 1 demand.now loads.new.volumes loads.new.waits) }
+    ensures gap { OnOk result (IsWithinParts net.now dest ws.now.reached ws.now.labels demand.now loads.new.volumes loads.new.waits) }
     ensures unreachable { IfErr result (λ fault. IsFirstUnreachable net.now dest demand.now fault.node) }
     ensures nothing { OnErr result (loads.new ≡ nothing_loaded net.now) }
     ensures room { HasRoomFor net.now loads.new }
@@ -152,6 +153,7 @@ fn load_onto(
     ensures volumes { OnOk result (SolvesVolumes net.now dest reached.now labels.now demand.now volumes.new) }
     ensures waits { OnOk result (AreLeastWaits net.now volumes.new waits.new) }
     ensures plan { OnOk result (IsPlan net.now dest 1 demand.now volumes.new waits.new) }
+    ensures gap { OnOk result (IsWithinParts net.now dest reached.now labels.now demand.now volumes.new waits.new) }
     ensures unreachable { IfErr result (λ fault. IsFirstUnreachable net.now dest demand.now fault.node) }
     ensures no_volumes { OnErr result (volumes.new ≡ replicate (length net.now.arcs) 0) }
     ensures no_waits { OnErr result (waits.new ≡ replicate net.now.nodes 0) }

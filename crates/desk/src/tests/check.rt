@@ -1,5 +1,7 @@
 //! Runs of `check`.
 
+ghost use Rattle.std.specs.Prelude.{◌<◌};
+
 mod outside;
 
 use crate::run::run;
@@ -28,14 +30,14 @@ end
 
 /// What a run answered and wrote.
 #[derive(Drop)]
-struct Ran {
-    status: Status,
-    out: MemorySink,
-    err: MemorySink,
+pub struct Ran {
+    pub status: Status,
+    pub out: MemorySink,
+    pub err: MemorySink,
 }
 
-// Runs the words over a folder with one file, whose calls of these numbers fail. `room` is that of the output.
-fn run_words(
+/// Runs the words over a folder with one file, whose calls of these numbers fail. `room` is that of the output.
+pub fn run_words(
     rt: &(impl Abort + AllocGlobal),
     words: &[&str],
     file: (&str, &str),
@@ -51,8 +53,8 @@ fn run_words(
     )
 }
 
-// Runs the words over a folder. `room` is that of the output.
-fn run_over(
+/// Runs the words over a folder. `room` is that of the output.
+pub fn run_over(
     rt: &(impl Abort + AllocGlobal),
     words: &[&str],
     mut folder: MemoryFolder,
@@ -69,14 +71,16 @@ fn run_over(
     Ok(Ran { status, out, err })
 }
 
-// A folder with one file, of which one read gives at most `step` bytes.
-fn folder_of(
+/// A folder with one file, of which one read gives at most `step` bytes.
+pub fn folder_of(
     rt: &(impl Abort + AllocGlobal),
     path: &str,
     bytes: Blob,
     step: usize,
     failing: &[u64],
-) -> Result<MemoryFolder, AllocError> {
+) -> Result<MemoryFolder, AllocError>
+    requires step { 0 < step }
+{
     let alloc = rt.alloc();
     let path = Name::new(String::from_str(alloc, path)?);
     let mut files = Vec::new(alloc);
@@ -189,8 +193,13 @@ fn a_text_that_ends_early_is_refused_at_its_end(rt: HostRuntime) -> Result<(), F
     Ok(())
 }
 
-// The text with another line in place of one.
-fn replaced(alloc: Global, text: &str, line: &str, changed: &str) -> Result<String, AllocError> {
+/// The text with another line in place of one.
+pub fn replaced(
+    alloc: Global,
+    text: &str,
+    line: &str,
+    changed: &str,
+) -> Result<String, AllocError> {
     let mut made = String::new(alloc);
     match text.split_once(line) {
         Some((before, after)) => {

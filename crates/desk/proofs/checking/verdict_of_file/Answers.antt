@@ -3,7 +3,7 @@ use Rattle.std.specs.Prelude.{◌≢◌}
 use Rattle.certificate.specs.declared.refused.Refused.TheVariants as refused
 use Rattle.desk.specs.Ends.{Unchecked}
 use Rattle.desk.proofs.FileLemmas.{file_checked, file_refused, file_unread}
-use Rattle.desk.proofs.run.verdict_of_file.Goals as goal
+use Rattle.desk.proofs.checking.verdict_of_file.Goals as goal
 
 pub returns-in_err-feed_all-clause-unchecked : goal.returns-in_err-feed_all-clause-unchecked
 returns-in_err-feed_all-clause-unchecked g c =

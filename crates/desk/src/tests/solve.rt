@@ -1,0 +1,163 @@
+//! Runs of `solve`.
+
+use super::check::{folder_of, replaced, run_over, run_words};
+use desk_io::Blob;
+use std::test::Fail;
+
+/// The problem of one line, which runs seven times in the window, with a further node.
+const ONE_LINE: &str = "assignment-network 1
+nodes 3
+arcs 1
+k 1800000000
+destination 1
+a 0 1 60000 7000
+g 1
+g 0
+g 0
+end
+";
+
+#[test]
+fn prints_a_certificate_that_check_accepts(rt: HostRuntime) -> Result<(), Fail> {
+    // Each row: the arcs and the demand, then labels, volumes and waits, then the verdict.
+    let tables = [
+        // Alone the first line takes 600000 + 1800000000 / 6000 = 900000. The second leads to
+        // 899999, one tick less: it saves 4000 * 1, and the first 6000 * 300000 less 6000 with it.
+        // So the label is 899999 and only the first is boarded at less. Its units wait 300000.
+        (
+            "nodes 2\narcs 2\nk 1800000000\ndestination 1\na 0 1 600000 6000\na 0 1 899999 4000\ng 1\ng 0\n",
+            "u 899999\nu 0\nv 1\nv 0\nq 300000\nq 0\n",
+            "valid\nunits 1\ncost 900000\nbound 899999\ngap 1\nslack 900001\n",
+        ),
+        // The second leads to just the label 900000, so both are boarded: 10 units over 6000 and
+        // 4000 are 6 and 4, and 1800000000 * 6 / 6000 = 1800000.
+        (
+            "nodes 2\narcs 2\nk 1800000000\ndestination 1\na 0 1 600000 6000\na 0 1 900000 4000\ng 10\ng 0\n",
+            "u 900000\nu 0\nv 6\nv 4\nq 1800000\nq 0\n",
+            "valid\nunits 10\ncost 9000000\nbound 9000000\ngap 0\nslack 900010\n",
+        ),
+        // Three alike: 600000 + 1800000000 / 18000 = 700000, and of two units the third gets none.
+        (
+            "nodes 2\narcs 3\nk 1800000000\ndestination 1\na 0 1 600000 6000\na 0 1 600000 6000\na 0 1 600000 6000\ng 2\ng 0\n",
+            "u 700000\nu 0\nv 1\nv 1\nv 0\nq 300000\nq 0\n",
+            "valid\nunits 2\ncost 1500000\nbound 1400000\ngap 100000\nslack 600002\n",
+        ),
+        // A free arc leads to just the label, so nobody waits.
+        (
+            "nodes 2\narcs 2\nk 1800000000\ndestination 1\na 0 1 600000 6000\na 0 1 900000 -\ng 5\ng 0\n",
+            "u 900000\nu 0\nv 0\nv 5\nq 0\nq 0\n",
+            "valid\nunits 5\ncost 4500000\nbound 4500000\ngap 0\nslack 600005\n",
+        ),
+        // 60000 + 257142.86 rounded down; the node that does not reach has the greatest label, and
+        // the wait is 1800000000 / 7000 rounded up.
+        (
+            "nodes 3\narcs 1\nk 1800000000\ndestination 1\na 0 1 60000 7000\ng 1\ng 0\ng 0\n",
+            "u 317142\nu 0\nu 317142\nv 1\nq 257143\nq 0\nq 0\n",
+            "valid\nunits 1\ncost 317143\nbound 317142\ngap 1\nslack 514287\n",
+        ),
+    ];
+    for (problem, claims, lines) in tables {
+        let alloc = rt.alloc();
+        let text = format!(in alloc; "assignment-network 1\n{problem}end\n")?;
+        let certificate = format!(in alloc; "assignment-certificate 1\n{problem}{claims}end\n")?;
+        let solved = run_words(&rt, &["solve", "n"], ("n", text.as_str()), &[], 1000)?;
+        assert_eq!(rt; solved.status.code, 0, "{lines}");
+        assert_eq!(rt; solved.out.bytes(), certificate.as_bytes(), "{lines}");
+        assert_eq!(rt; solved.err.bytes(), b"".as_slice(), "{lines}");
+        let bytes = Blob::new(Vec::from_slice(alloc, solved.out.bytes())?);
+        let checked = run_over(
+            &rt,
+            &["check", "c"],
+            folder_of(&rt, "c", bytes, 1000, &[])?,
+            1000,
+        )?;
+        assert_eq!(rt; checked.status.code, 0, "{lines}");
+        assert_eq!(rt; checked.out.bytes(), lines.as_bytes(), "{lines}");
+    }
+    Ok(())
+}
+
+#[test]
+fn tells_why_there_is_no_certificate(rt: HostRuntime) -> Result<(), Fail> {
+    // A line of the text, another in its place, the status and the fault text.
+    let changes = [
+        (
+            "g 0\nend\n",
+            "g 1\nend\n",
+            6,
+            "error 6: unreachable node 2\n",
+        ),
+        (
+            "assignment-network 1\n",
+            "assignment-certificate 1\n",
+            12,
+            "error 12: refused grammar at 11\n",
+        ),
+        (
+            "g 0\nend\n",
+            "g 0\n",
+            12,
+            "error 12: refused grammar at 92\n",
+        ),
+        (
+            "g 0\ng 0\n",
+            "g 1\ng 0\n",
+            12,
+            "error 12: refused grammar at 86\n",
+        ),
+        (
+            "k 1800000000\n",
+            "k 345600000001\n",
+            12,
+            "error 12: refused range k 345600000001\n",
+        ),
+        (
+            "a 0 1 60000 7000\n",
+            "a 0 1 60000 0\n",
+            12,
+            "error 12: refused zero-weight arc 0\n",
+        ),
+    ];
+    for (line, changed, code, fault) in changes {
+        let text = replaced(rt.alloc(), ONE_LINE, line, changed)?;
+        let ran = run_words(&rt, &["solve", "n"], ("n", text.as_str()), &[], 1000)?;
+        assert_eq!(rt; ran.status.code, code, "{fault}");
+        assert_eq!(rt; ran.out.bytes(), b"".as_slice(), "{fault}");
+        assert_eq!(rt; ran.err.bytes(), fault.as_bytes(), "{fault}");
+    }
+    Ok(())
+}
+
+#[test]
+fn tells_faults_of_words_folder_and_output(rt: HostRuntime) -> Result<(), Fail> {
+    // The words, the call that fails, the room of the output; the status, the output and the fault text.
+    let cases: [(&[&str], u64, usize, u8, &str, &str); 6] = [
+        (&["solve"], 9, 1000, 2, "", "error 2: usage words\n"),
+        (
+            &["solve", "other"],
+            9,
+            1000,
+            2,
+            "",
+            "error 2: usage no file other\n",
+        ),
+        (&["solve", "n"], 0, 1000, 8, "", "error 8: read fault\n"),
+        (&["solve", "n"], 1, 1000, 8, "", "error 8: read fault\n"),
+        (
+            &["solve", "n"],
+            9,
+            5,
+            9,
+            "assig",
+            "error 9: write fault 5\n",
+        ),
+        (&["solve", "n"], 9, 0, 9, "", "error 9: write fault 0\n"),
+    ];
+    for (words, failing, room, code, output, fault) in cases {
+        let ran = run_words(&rt, words, ("n", ONE_LINE), &[failing], room)?;
+        assert_eq!(rt; ran.status.code, code, "{fault}");
+        assert_eq!(rt; ran.out.bytes(), output.as_bytes(), "{fault}");
+        assert_eq!(rt; ran.err.bytes(), fault.as_bytes(), "{fault}");
+    }
+    Ok(())
+}
