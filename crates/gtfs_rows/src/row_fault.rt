@@ -20,7 +20,7 @@ pub enum RowFault {
     DoubleColumn(Place),
     /// The record has more or fewer fields than the first. With its row.
     RowWidth(Place),
-    /// The field is none that its reader accepts. With its row and column.
+    /// The field is none that its reader accepts. With its row, column and field.
     BadField(Place),
     NoMemory,
 }

@@ -111,12 +111,15 @@ impl Sheet {
         cell(&self.fields, self.width, self.count, row, column)
     }
 
-    /// The number of a row's record in the file, which faults tell: the header is 1.
-    pub fn place(&self, row: u64) -> u64
+    /// The number of the record in which a field stands, which faults tell: the header is 1.
+    pub fn place(&self, row: u64, column: usize) -> u64
         requires row { row < length self.now.rows }
+        requires column { column < self.now.width }
         ensures value { result ≡ row + 2 }
     {
+        // The number of a record fits a u64, and each column of a row stands in one record.
         let _rows = self.rows();
+        let _column = column;
         row + 2
     }
 }

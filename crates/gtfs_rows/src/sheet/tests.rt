@@ -159,7 +159,23 @@ fn numbers_rows_from_the_header_on(rt: HostRuntime) -> Result<(), Fail> {
     assert_eq!(rt; sheet.width(), 2);
     assert_eq!(rt; sheet.rows(), 2);
     assert!(rt; sheet.rows() > 1);
-    assert_eq!(rt; sheet.place(0), 2);
-    assert_eq!(rt; sheet.place(1), 3);
+    assert_eq!(rt; sheet.place(0, 0), 2);
+    assert_eq!(rt; sheet.place(1, 1), 3);
+    Ok(())
+}
+
+// A reader of fields refuses one at its place, with all that a fault tells.
+#[test]
+fn a_bad_field_has_its_place(rt: HostRuntime) -> Result<(), Fail> {
+    let Ok(place) = Place::new(rt.alloc(), "stop_times.txt", 7, "arrival_time", b"06:60:00") else {
+        return Err(Fail::new("no memory"));
+    };
+    let RowFault::BadField(place) = RowFault::BadField(place) else {
+        return Err(Fail::new("another fault"));
+    };
+    assert_eq!(rt; place.file.as_str(), "stop_times.txt");
+    assert_eq!(rt; place.row, 7);
+    assert_eq!(rt; place.column.as_str(), "arrival_time");
+    assert_eq!(rt; place.field.as_slice(), b"06:60:00".as_slice());
     Ok(())
 }
