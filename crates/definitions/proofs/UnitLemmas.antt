@@ -1,4 +1,4 @@
--- No unit comes to a node twice: a node has no more units than there is demand.
+-- A node has no more units than there is demand.
 use Rattle.std.proofs.Common.{◌≡◌, ℕ, ◌+◌, ◌*◌, ◌<◌, ◌≤◌, ◌==◌, Bool, true, false, cond, List, length, refl, ◌∙◌, ap, arith, inl, inr, ◌⊎◌, get_or}
 use Rattle.std.specs.Bool.{nat_lt, nat_le}
 use Rattle.std.specs.List.{sum_by, sum, range_with_len}

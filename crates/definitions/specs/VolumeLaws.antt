@@ -18,7 +18,7 @@ VolumesLeadLower = (net : NetworkData) (destination : ℕ) (reached : List Bool)
     SolvesVolumes net destination reached labels demand volumes →
     (arc : ℕ) → arc < length net.arcs → 0 < slice_index volumes arc → slice_index labels (head_of net arc) < slice_index labels (tail_of net arc)
 
--- no unit comes to a node twice: a node has no more units than there is demand
+-- a node has no more units than there is demand
 abbrev pub UnitsAreWithinDemand : Type 0
 UnitsAreWithinDemand = (net : NetworkData) (destination : ℕ) (reached : List Bool) (labels demand volumes : List ℕ) → IsWellFormed net →
     SolvesLabels net destination reached labels → IsCarried net destination reached demand →

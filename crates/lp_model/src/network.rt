@@ -1,9 +1,10 @@
 //! A network, judged once, with the arcs of each node at hand.
 
-ghost use Rattle.std.specs.Prelude.{◌≡◌, ℕ, ◌+◌, ◌*◌, ◌<◌, ◌≤◌, ◌⊎◌, [], All, length, map, Some, IfOk, OnOk, IfErr, IfSome, IsTrue};
+ghost use Rattle.std.specs.Prelude.{◌≡◌, ℕ, ◌+◌, ◌*◌, ◌<◌, ◌≤◌, ◌⊎◌, [], All, length, map, Some, IfOk, OnOk, IfErr, IfSome};
 ghost use Rattle.std.specs.List.{range_with_len};
 ghost use Rattle.definitions.specs.declared.limits.TheConstants.{NODE_LIMIT, ARC_LIMIT, K_LIMIT, COST_LIMIT, WEIGHT_LIMIT};
-ghost use Rattle.definitions.specs.Network.{IsNetwork, arc_at, is_boarding, weight_of, out_arcs, in_arcs};
+ghost use Rattle.definitions.specs.Network.{IsNetwork, arc_at, out_arcs, in_arcs};
+ghost use Rattle.definitions.specs.Gap.{IsEnoughForEach};
 ghost use Rattle.definitions.specs.Totals.{boarding_stops, least_weight, longest_wait};
 ghost use Rattle.lp_model.specs.declared.fault.NetFault.TheVariants.{NoMemory};
 ghost use Rattle.lp_model.specs.Faults.{network_faults, first_fault};
@@ -128,7 +129,7 @@ impl Network {
         ensures numbers { out_arcs self.now n ≡ range_with_len (first_arc self.now n) (length result.now) }
         ensures within { first_arc self.now n + length result.now ≤ length self.now.arcs }
     {
-        part_of(&self.arcs, &self.firsts, n)
+        self.arcs_from(n)
     }
 
     /// The numbers of the arcs that enter node `n`, increasing.
@@ -165,13 +166,23 @@ impl Network {
     pub fn longest_wait(&self) -> u64
         ensures value { result ≡ longest_wait self.now }
         ensures within { result ≤ K_LIMIT }
-        ensures enough { (arc : ℕ) → arc < length self.now.arcs → IsTrue (is_boarding self.now arc) → self.now.k ≤ result * weight_of self.now arc }
+        ensures enough { IsEnoughForEach self.now result }
     {
         self.rules();
         match self.least_weight() {
             0 => 0,
             least => self.k().div_ceil(least as u64),
         }
+    }
+
+    // The part of the arcs that leaves node `n`.
+    fn arcs_from(&self, n: u32) -> &[NetArc]
+        requires { n < self.now.nodes }
+        ensures arcs { result.now ≡ map (arc_at self.now) (out_arcs self.now n) }
+        ensures numbers { out_arcs self.now n ≡ range_with_len (first_arc self.now n) (length result.now) }
+        ensures within { first_arc self.now n + length result.now ≤ length self.now.arcs }
+    {
+        part_of(&self.arcs, &self.firsts, n)
     }
 }
 

@@ -5,7 +5,7 @@ use Rattle.definitions.proofs.Grouped.{those_within}
 use Rattle.std.proofs.lemmas.List.{length-map}
 use Rattle.lp_model.specs.Parts.{first_arc}
 use Rattle.lp_model.proofs.IndexLemmas.{out_next, out_within, out_part, out_numbers}
-use Rattle.lp_model.proofs.network.Network.out.Goals as goal
+use Rattle.lp_model.proofs.network.Network.arcs_from.Goals as goal
 
 pub part_of-requires-clause-rises : goal.part_of-requires-clause-rises
 part_of-requires-clause-rises c =
