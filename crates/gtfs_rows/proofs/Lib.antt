@@ -19,3 +19,4 @@ pub mod TextLemmas
 pub mod FieldTextLemmas
 pub mod KnownValues
 pub mod KnownSheets
+pub mod CountLemmas

@@ -105,15 +105,15 @@ abbrev pub IsKind : List ℕ → List ℕ → List Column → RowFault → Type 
 IsKind file bytes wanted e =
     ((¬ (IsUtf8 (unmarked bytes))) × (e ≡ fault.NotUtf8 (file_place file)))
     ⊎ ((IsUtf8 (unmarked bytes) × (records_of bytes ≡ []) × (e ≡ fault.NoHeader (file_place file)))
-    ⊎ (HasColumnFault file (header_of (records_of bytes)) wanted e
-    ⊎ (AreFine (header_of (records_of bytes)) wanted (length wanted) × HasRowFault file (length (header_of (records_of bytes))) 1 (records_of bytes) e)))
+    ⊎ ((IsUtf8 (unmarked bytes) × (records_of bytes ≢ []) × HasColumnFault file (header_of (records_of bytes)) wanted e)
+    ⊎ (IsUtf8 (unmarked bytes) × AreFine (header_of (records_of bytes)) wanted (length wanted) × HasRowFault file (length (header_of (records_of bytes))) 1 (records_of bytes) e)))
 
 records-first : (file : List ℕ) (wanted : List Column) (all : List (List (List ℕ))) (e : RowFault) → slice_get (record_faults file wanted all) 0 ≡ Some e
     → ((all ≡ []) × (e ≡ fault.NoHeader (file_place file)))
-    ⊎ (HasColumnFault file (header_of all) wanted e ⊎ (AreFine (header_of all) wanted (length wanted) × HasRowFault file (length (header_of all)) 1 all e))
+    ⊎ (((all ≢ []) × HasColumnFault file (header_of all) wanted e) ⊎ (AreFine (header_of all) wanted (length wanted) × HasRowFault file (length (header_of all)) 1 all e))
 records-first file wanted [] e first = inl (refl, some-same _ _ first)
 records-first file wanted (h ∷ rest) e first = inr (elim (columns-first file h wanted (width_faults file (length h) 1 (h ∷ rest)) e first) [
-  | inl column ↦ inl column
+  | inl column ↦ inl ((λ none. absurd (cc none)), column)
   | inr on ↦ inr (on.0, rows-first file (length h) 1 (h ∷ rest) e on.1)
 ])
 
@@ -123,7 +123,10 @@ kind-of file bytes wanted e first = elim (cases_Bool (is_utf8 (unmarked bytes)))
       let text = IsUtf8-from_is_utf8 (unmarked bytes) good in
       elim (records-first file wanted (records_of bytes) e (rw good at first)) [
         | inl none ↦ inr (inl (text, none.0, none.1))
-        | inr rest ↦ inr (inr rest)
+        | inr rest ↦ elim rest [
+          | inl column ↦ inr (inr (inl (text, column.0, column.1)))
+          | inr row ↦ inr (inr (inr (text, row.0, row.1)))
+        ]
       ]
   | inr bad ↦ inl ((λ text. let is = is_utf8-from_IsUtf8 (unmarked bytes) text in let clash : true ≡ false = sym is ∙ bad in absurd (cc clash)), some-same _ _ (rw bad at first))
 ]

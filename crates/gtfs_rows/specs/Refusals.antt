@@ -25,31 +25,36 @@ pub record HasNoRecord (file bytes : List ℕ) (place : Place) : Type 0 where
   pub none : records_of bytes ≡ []
   pub at : place ≡ file_place file
 
--- a wanted column that stands twice in the header, where those before it are without a fault
-pub record HasDoubleColumn (file : List ℕ) (header : List (List ℕ)) (wanted : List Column) (place : Place) : Type 0 where
+-- the bytes are UTF-8 with a header in which a wanted column stands twice, and those before it are without a fault
+pub record HasDoubleColumn (file bytes : List ℕ) (wanted : List Column) (place : Place) : Type 0 where
+  pub text : IsUtf8 (unmarked bytes)
+  pub some : records_of bytes ≢ []
   pub number : ℕ
   pub column : Column
   pub found : slice_get wanted number ≡ Some column
-  pub twice : 1 < times column.name header
-  pub before : AreFine header wanted number
+  pub twice : 1 < times column.name (header_of (records_of bytes))
+  pub before : AreFine (header_of (records_of bytes)) wanted number
   pub at : place ≡ column_place file column.name
 
--- a required column that is not in the header, where those before it are without a fault
-pub record HasMissingColumn (file : List ℕ) (header : List (List ℕ)) (wanted : List Column) (place : Place) : Type 0 where
+-- the bytes are UTF-8 with a header in which a required column is not, and those before it are without a fault
+pub record HasMissingColumn (file bytes : List ℕ) (wanted : List Column) (place : Place) : Type 0 where
+  pub text : IsUtf8 (unmarked bytes)
+  pub some : records_of bytes ≢ []
   pub number : ℕ
   pub column : Column
   pub found : slice_get wanted number ≡ Some column
   pub required : column.required ≡ true
-  pub absent : times column.name header ≡ 0
-  pub before : AreFine header wanted number
+  pub absent : times column.name (header_of (records_of bytes)) ≡ 0
+  pub before : AreFine (header_of (records_of bytes)) wanted number
   pub at : place ≡ column_place file column.name
 
--- a record with another number of fields than the header, where those before it have as many, and all columns are
--- without a fault; the first record is number 0 here and row 1 in the place
-pub record HasUnevenRow (file : List ℕ) (all : List (List (List ℕ))) (wanted : List Column) (place : Place) : Type 0 where
+-- the bytes are UTF-8 with a record of another number of fields than the header, those before it have as many, and all
+-- columns are without a fault; the first record is number 0 here and row 1 in the place
+pub record HasUnevenRow (file bytes : List ℕ) (wanted : List Column) (place : Place) : Type 0 where
+  pub text : IsUtf8 (unmarked bytes)
   pub number : ℕ
-  pub there : number < length all
-  pub uneven : length (slice_index_or all number []) ≢ length (header_of all)
-  pub before : (k : ℕ) → k < number → length (slice_index_or all k []) ≡ length (header_of all)
-  pub columns : AreFine (header_of all) wanted (length wanted)
+  pub there : number < length (records_of bytes)
+  pub uneven : length (slice_index_or (records_of bytes) number []) ≢ length (header_of (records_of bytes))
+  pub before : (k : ℕ) → k < number → length (slice_index_or (records_of bytes) k []) ≡ length (header_of (records_of bytes))
+  pub columns : AreFine (header_of (records_of bytes)) wanted (length wanted)
   pub at : place ≡ row_place file (number + 1)

@@ -12,7 +12,7 @@ use std::marker::Model;
 #[derive(Drop)]
 pub struct FieldList {
     bytes: Vec<u8>,
-    ends: Vec<usize>,
+    ends: Vec<u32>,
 }
 
 impl Model for FieldList {
@@ -46,10 +46,10 @@ impl FieldList {
         let start = self.bytes.as_slice().len();
         self.bytes.extend_from_slice(field)?;
         let end = self.bytes.as_slice().len();
-        if self.ends.push(end).is_err() {
+        let Ok(_) = note_end(&mut self.ends, end) else {
             self.bytes.truncate(start);
             return Err(NoMemory);
-        }
+        };
         Ok(())
     }
 
@@ -69,21 +69,37 @@ impl FieldList {
     }
 }
 
+// Appends an end. One past the numbers of 32 bits is answered as want of memory.
+fn note_end(ends: &mut Vec<u32>, end: usize) -> Result<(), NoMemory>
+    ensures ok { OnOk result (ends.new.items ≡ ends.old.items ++ end ∷ []) }
+    ensures err { OnErr result (ends.new.items ≡ ends.old.items) }
+{
+    let Ok(end) = u32::try_from(end) else {
+        return Err(NoMemory);
+    };
+    ends.push(end)?;
+    Ok(())
+}
+
 // Where the field at a place starts.
-fn start_of(ends: &[usize], place: usize) -> usize
+fn start_of(ends: &[u32], place: usize) -> usize
     requires place { place < length ends.now }
     ensures value { result ≡ prev 0 ends.now place }
 {
-    if place == 0 { 0 } else { ends[place - 1] }
+    if place == 0 {
+        0
+    } else {
+        ends[place - 1] as usize
+    }
 }
 
 // The field at a place.
-fn part<'a>(bytes: &'a [u8], ends: &[usize], place: usize) -> &'a [u8]
+fn part<'a>(bytes: &'a [u8], ends: &[u32], place: usize) -> &'a [u8]
     requires flat { IsFlat ends.now bytes.now }
     requires place { place < length ends.now }
     ensures value { result.now ≡ slice_index_or (cut_from 0 ends.now bytes.now) place [] }
 {
     let start = start_of(ends, place);
-    let end = ends[place];
+    let end = ends[place] as usize;
     &bytes[start..end]
 }

@@ -1,9 +1,9 @@
 //! A sheet: the wanted fields of a file's records.
 
-ghost use Rattle.std.specs.Prelude.{◌≡◌, ◌≢◌, ◌+◌, ◌*◌, ◌<◌, ◌^◌, [], Err, IfOk, IfErr, OnOk, length, slice_index_or, map, IsUtf8};
+ghost use Rattle.std.specs.Prelude.{◌≡◌, ◌≢◌, ◌+◌, ◌*◌, ◌<◌, ◌≤◌, ◌^◌, [], Err, IfOk, IfErr, OnOk, length, slice_index_or, map, IsUtf8};
 ghost use Rattle.std.specs.Str.{is_utf8};
 ghost use Rattle.gtfs_rows.specs.Cursor.{AllTexts, IsReading, left_of};
-ghost use Rattle.gtfs_rows.specs.Records.{has_mark, header_of, records_of, trimmed, unmarked};
+ghost use Rattle.gtfs_rows.specs.Records.{has_mark, trimmed, unmarked};
 ghost use Rattle.gtfs_rows.specs.Shape.{HasShape, rows_of};
 ghost use Rattle.gtfs_rows.specs.Sheets.{cell, sheet_of, sheet_of_records};
 ghost use Rattle.gtfs_rows.specs.Faults.{IsFirstFault, record_faults, sheet_faults};
@@ -55,6 +55,7 @@ impl Sheet {
     /// - `NoMemory` may come in place of any of these.
     pub fn read(alloc: Global, file: &str, bytes: &[u8], wanted: &Wanted) -> Result<Sheet, RowFault>
         ensures sheet { IfOk result (λ sheet. sheet ≡ sheet_of bytes.now wanted.now) }
+        ensures few { IfOk result (λ sheet. length sheet.rows ≤ length bytes.now) }
 
         // Each fault is answered, and no other comes before it.
         ensures faultless { OnOk result (sheet_faults file.now bytes.now wanted.now ≡ []) }
@@ -64,11 +65,11 @@ impl Sheet {
         ensures not_utf8 { (p : Place) → result ≡ Err (fault.NotUtf8 p) → IsNotText file.now bytes.now p }
         ensures no_header { (p : Place) → result ≡ Err (fault.NoHeader p) → HasNoRecord file.now bytes.now p }
         ensures double_column { (p : Place) → result ≡ Err (fault.DoubleColumn p)
-            → HasDoubleColumn file.now (header_of (records_of bytes.now)) wanted.now p }
+            → HasDoubleColumn file.now bytes.now wanted.now p }
         ensures missing_column { (p : Place) → result ≡ Err (fault.MissingColumn p)
-            → HasMissingColumn file.now (header_of (records_of bytes.now)) wanted.now p }
+            → HasMissingColumn file.now bytes.now wanted.now p }
         ensures row_width { (p : Place) → result ≡ Err (fault.RowWidth p)
-            → HasUnevenRow file.now (records_of bytes.now) wanted.now p }
+            → HasUnevenRow file.now bytes.now wanted.now p }
         ensures no_bad_field { (p : Place) → result ≢ Err (fault.BadField p) }
     {
         read_bytes(alloc, file, bytes, wanted.columns())

@@ -1,3 +1,4 @@
+use Rattle.gtfs_rows.proofs.CountLemmas.{read-few}
 use Rattle.gtfs_rows.proofs.KindLemmas.{bad-field, double-column, missing-column, no-record, not-text, uneven-row}
 use Rattle.gtfs_rows.proofs.sheet.Sheet.read.Goals as goal
 
@@ -18,3 +19,6 @@ returns-clause-row_width c = λ p e. uneven-row c.args.file.now c.args.bytes.now
 
 pub returns-clause-no_bad_field : goal.returns-clause-no_bad_field
 returns-clause-no_bad_field c = λ p e. bad-field c.args.file.now c.args.bytes.now c.args.wanted.now p (rw (c.columns.ensures.value, e) at c.read_bytes.ensures.refused)
+
+pub returns-clause-few : goal.returns-clause-few
+returns-clause-few c = read-few c.read_bytes.result c.args.bytes.now c.args.wanted.now (rw c.columns.ensures.value at c.read_bytes.ensures.sheet)
