@@ -51,6 +51,7 @@ pub record IsRefusedNetwork (files : Files) (command : Option Command) (fault : 
   pub bytes : List ℕ
   pub read : IsRead files command bytes
   pub with : HasNetworkRefusal bytes fault
+  pub no_problem : (problem : ProblemData) → HasProblem bytes problem → ⊥
 
 -- the cost of the certificate exceeds its bound by at most its slack, all as `check` prints them
 abbrev pub IsWithinSlack : Certificate → Type 0

@@ -19,37 +19,42 @@ end
 
 #[test]
 fn prints_a_certificate_that_check_accepts(rt: HostRuntime) -> Result<(), Fail> {
-    // Each row: the arcs and the demand, then labels, volumes and waits, then the verdict.
+    // Each row: the arcs and the demand, then labels, volumes and waits, then the verdict. The
+    // slack is b * (g + 2 * h * d): b is 1, as node 0 alone has a boarding arc; g is the units; d
+    // is 1, as there are some; and h is 1800000000 over the least weight: 450000 for 4000, 300000
+    // for 6000 and, rounded up, 257143 for 7000.
     let tables = [
-        // Alone the first line takes 600000 + 1800000000 / 6000 = 900000. The second leads to
-        // 899999, one tick less: it saves 4000 * 1, and the first 6000 * 300000 less 6000 with it.
-        // So the label is 899999 and only the first is boarded at less. Its units wait 300000.
+        // Against 900000 the lines save 6000 * 300000 + 4000 * 1, above k; against 899999 they save
+        // 6000 * 299999, which is not. So the label is 899999, and both are boarded. Of one unit
+        // the remainders are 6000 and 4000: it goes to the first, and waits 1800000000 / 6000 =
+        // 300000. The slack is 1 + 2 * 450000.
         (
             "nodes 2\narcs 2\nk 1800000000\ndestination 1\na 0 1 600000 6000\na 0 1 899999 4000\ng 1\ng 0\n",
             "u 899999\nu 0\nv 1\nv 0\nq 300000\nq 0\n",
             "valid\nunits 1\ncost 900000\nbound 899999\ngap 1\nslack 900001\n",
         ),
         // The second leads to just the label 900000, so both are boarded: 10 units over 6000 and
-        // 4000 are 6 and 4, and 1800000000 * 6 / 6000 = 1800000.
+        // 4000 are 6 and 4, and 1800000000 * 6 / 6000 = 1800000. The slack is 10 + 2 * 450000.
         (
             "nodes 2\narcs 2\nk 1800000000\ndestination 1\na 0 1 600000 6000\na 0 1 900000 4000\ng 10\ng 0\n",
             "u 900000\nu 0\nv 6\nv 4\nq 1800000\nq 0\n",
             "valid\nunits 10\ncost 9000000\nbound 9000000\ngap 0\nslack 900010\n",
         ),
         // Three alike: 600000 + 1800000000 / 18000 = 700000, and of two units the third gets none.
+        // The slack is 2 + 2 * 300000.
         (
             "nodes 2\narcs 3\nk 1800000000\ndestination 1\na 0 1 600000 6000\na 0 1 600000 6000\na 0 1 600000 6000\ng 2\ng 0\n",
             "u 700000\nu 0\nv 1\nv 1\nv 0\nq 300000\nq 0\n",
             "valid\nunits 2\ncost 1500000\nbound 1400000\ngap 100000\nslack 600002\n",
         ),
-        // A free arc leads to just the label, so nobody waits.
+        // A free arc leads to just the label, so nobody waits. The slack is 5 + 2 * 300000.
         (
             "nodes 2\narcs 2\nk 1800000000\ndestination 1\na 0 1 600000 6000\na 0 1 900000 -\ng 5\ng 0\n",
             "u 900000\nu 0\nv 0\nv 5\nq 0\nq 0\n",
             "valid\nunits 5\ncost 4500000\nbound 4500000\ngap 0\nslack 600005\n",
         ),
         // 60000 + 257142.86 rounded down; the node that does not reach has the greatest label, and
-        // the wait is 1800000000 / 7000 rounded up.
+        // the wait is 1800000000 / 7000 rounded up. The slack is 1 + 2 * 257143.
         (
             "nodes 3\narcs 1\nk 1800000000\ndestination 1\na 0 1 60000 7000\ng 1\ng 0\ng 0\n",
             "u 317142\nu 0\nu 317142\nv 1\nq 257143\nq 0\nq 0\n",
@@ -159,5 +164,19 @@ fn tells_faults_of_words_folder_and_output(rt: HostRuntime) -> Result<(), Fail> 
         assert_eq!(rt; ran.out.bytes(), output.as_bytes(), "{fault}");
         assert_eq!(rt; ran.err.bytes(), fault.as_bytes(), "{fault}");
     }
+    Ok(())
+}
+
+#[test]
+fn refuses_a_file_past_its_limit(rt: HostRuntime) -> Result<(), Fail> {
+    let bytes = vec![in rt.alloc(); b'a'; 268_435_457]?;
+    let folder = folder_of(&rt, "n", Blob::new(bytes), 65_536, &[])?;
+    let ran = run_over(&rt, &["solve", "n"], folder, 10)?;
+    assert_eq!(rt; ran.status.code, 7);
+    assert_eq!(rt; ran.out.bytes(), b"".as_slice());
+    assert_eq!(rt;
+        ran.err.bytes(),
+        b"error 7: range file 268435457\n".as_slice()
+    );
     Ok(())
 }
