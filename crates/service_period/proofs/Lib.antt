@@ -1,0 +1,4 @@
+pub mod KnownValues
+pub mod WeightLemmas
+pub mod ServiceLemmas
+pub mod PeriodLemmas

@@ -1,0 +1,3 @@
+pub mod Periods
+pub mod Services
+pub mod Weights
