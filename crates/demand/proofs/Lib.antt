@@ -1,0 +1,13 @@
+pub mod AmountLemmas
+pub mod FaultLemmas
+pub mod FirstLemmas
+pub mod IdLemmas
+pub mod KnownValues
+pub mod LawLemmas
+pub mod OrderLemmas
+pub mod PairLemmas
+pub mod ReadingLemmas
+pub mod RowLemmas
+pub mod SortLemmas
+pub mod TableLemmas
+pub mod UnitLemmas

@@ -1,0 +1,11 @@
+pub mod Columns
+pub mod Demands
+pub mod Faults
+pub mod Handed
+pub mod Laws
+pub mod Pairs
+pub mod Walks
+pub mod Zones
+pub mod Amounts
+pub mod Joined
+pub mod Numbering
