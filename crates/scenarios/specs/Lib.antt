@@ -1,0 +1,11 @@
+pub mod Answers
+pub mod Changes
+pub mod Edits
+pub mod Faults
+pub mod Feeds
+pub mod Handed
+pub mod Index
+pub mod Laws
+pub mod Scenarios
+pub mod Shown
+pub mod Tariffs
