@@ -1,0 +1,10 @@
+pub mod CountedLemmas
+pub mod FaultLemmas
+pub mod GroupLemmas
+pub mod KeyLemmas
+pub mod KnownValues
+pub mod LawLemmas
+pub mod ListLemmas
+pub mod MemberLemmas
+pub mod NumberingLemmas
+pub mod WeightLemmas
