@@ -2,4 +2,5 @@ pub mod Faults
 pub mod Grouping
 pub mod Indexed
 pub mod Parts
+pub mod WaitConstant
 pub mod Wide
