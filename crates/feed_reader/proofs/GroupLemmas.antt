@@ -1,4 +1,4 @@
--- The rows of a trip among rows that stand by trip.
+-- The stretches of a trip among stretches that stand by trip.
 use Rattle.std.proofs.Common.{◌≡◌, ℕ, zero, suc, ◌+◌, ◌-◌, ◌<◌, ◌≤◌, false, List, [], ◌∷◌, length, take, drop, refl, sym, ap, ◌∙◌, inl, inr, arith, length-drop}
 use Rattle.std.specs.Prelude.{◌==◌, filter}
 use Rattle.std.specs.List.{prefix_len}
@@ -8,8 +8,8 @@ use Rattle.std.proofs.lemmas.List.Sums.{prefix_len-le-length}
 use Rattle.std.proofs.Math.Seq.{drop-nil}
 use Rattle.std.specs.List.Sorted.{IsNonDecreasingBy}
 use Rattle.std.proofs.lemmas.List.Sorted.{IsNonDecreasingBy-drop}
-use Rattle.feed_reader.specs.declared.order.TripCall.{TripCall}
-use Rattle.feed_reader.specs.TripCalls.{trip_number}
+use Rattle.feed_reader.specs.declared.call_rows.Stretch.{Stretch}
+use Rattle.feed_reader.specs.Stretches.{stretch_trip}
 use Rattle.feed_reader.proofs.OrderLemmas.{From, Rises, from-less, none-below, rises-index}
 
 -- the rows in front that are of one key are all of that key, where no key is less and keys rise
@@ -52,48 +52,48 @@ behind-kept key t u (x ∷ xs) lt = elim (cases_Bool (key x == t)) [
   | inr e ↦ rw e refl
 ]
 
--- a start before a trip: from it on each row is of this trip or a later one, and all of those are there
-pub record IsBefore (rows : List TripCall) (trip start : ℕ) : Type 0 where
-  pub within : start ≤ length rows
-  pub low : From trip_number trip (drop start rows)
-  pub left : (later : ℕ) → trip ≤ later → filter (λ row. trip_number row == later) (drop start rows) ≡ filter (λ row. trip_number row == later) rows
+-- a start before a trip: from it on each stretch is of this trip or a later one, and all of those are there
+pub record IsBefore (stretches : List Stretch) (trip start : ℕ) : Type 0 where
+  pub within : start ≤ length stretches
+  pub low : From stretch_trip trip (drop start stretches)
+  pub left : (later : ℕ) → trip ≤ later → filter (λ stretch. stretch_trip stretch == later) (drop start stretches) ≡ filter (λ stretch. stretch_trip stretch == later) stretches
 
-from-zero : (rows : List TripCall) → From trip_number 0 rows
+from-zero : (stretches : List Stretch) → From stretch_trip 0 stretches
 from-zero [] = tt
-from-zero (row ∷ rows) = (omega arith, from-zero rows)
+from-zero (stretch ∷ stretches) = (omega arith, from-zero stretches)
 
-pub before-first : (rows : List TripCall) → IsBefore rows 0 0
-before-first rows = record { within = omega arith; low = from-zero rows; left = λ later le. refl }
+pub before-first : (stretches : List Stretch) → IsBefore stretches 0 0
+before-first stretches = record { within = omega arith; low = from-zero stretches; left = λ later le. refl }
 
--- how many rows at a start are of a trip
-abbrev pub size_of : List TripCall → ℕ → ℕ → ℕ
-size_of rows trip start = prefix_len (λ row. trip_number row == trip) (drop start rows)
+-- how many stretches at a start are of a trip
+abbrev pub size_of : List Stretch → ℕ → ℕ → ℕ
+size_of stretches trip start = prefix_len (λ stretch. stretch_trip stretch == trip) (drop start stretches)
 
 drop-twice : {A : Type 0} (a b : ℕ) (xs : List A) → drop b (drop a xs) ≡ drop (a + b) xs
 drop-twice zero b xs = let e : 0 + b ≡ b = omega arith in rw e refl
 drop-twice (suc a) b [] = drop-nil b ∙ sym (drop-nil (suc a + b))
 drop-twice (suc a) b (x ∷ xs) = let e : suc a + b ≡ suc (a + b) = omega arith in rw e (drop-twice a b xs)
 
-pub size-within : (rows : List TripCall) (trip start : ℕ) → start ≤ length rows → start + size_of rows trip start ≤ length rows
-size-within rows trip start le =
-    let least = prefix_len-le-length (λ row. trip_number row == trip) (drop start rows) in
-    let size = length-drop start rows in
+pub size-within : (stretches : List Stretch) (trip start : ℕ) → start ≤ length stretches → start + size_of stretches trip start ≤ length stretches
+size-within stretches trip start le =
+    let least = prefix_len-le-length (λ stretch. stretch_trip stretch == trip) (drop start stretches) in
+    let size = length-drop start stretches in
     omega arith
 
-pub before-next : (rows : List TripCall) (trip start end : ℕ) → IsNonDecreasingBy trip_number rows → IsBefore rows trip start → end ≡ start + size_of rows trip start
-    → IsBefore rows (trip + 1) end
-before-next rows trip start end sorted before e =
-    let up = rises-index trip_number (drop start rows) (IsNonDecreasingBy-drop trip_number start rows sorted) in
-    let behind : drop end rows ≡ drop (size_of rows trip start) (drop start rows) = rw e (sym (drop-twice start (size_of rows trip start) rows)) in
+pub before-next : (stretches : List Stretch) (trip start end : ℕ) → IsNonDecreasingBy stretch_trip stretches → IsBefore stretches trip start → end ≡ start + size_of stretches trip start
+    → IsBefore stretches (trip + 1) end
+before-next stretches trip start end sorted before e =
+    let up = rises-index stretch_trip (drop start stretches) (IsNonDecreasingBy-drop stretch_trip start stretches sorted) in
+    let behind : drop end stretches ≡ drop (size_of stretches trip start) (drop start stretches) = rw e (sym (drop-twice start (size_of stretches trip start) stretches)) in
     record {
-      within = rw e (size-within rows trip start before.within);
-      low = rw behind (behind-from trip_number trip (drop start rows) before.low up);
-      left = λ later le. rw behind (behind-kept trip_number trip later (drop start rows) (omega arith)) ∙ before.left later (omega arith);
+      within = rw e (size-within stretches trip start before.within);
+      low = rw behind (behind-from stretch_trip trip (drop start stretches) before.low up);
+      left = λ later le. rw behind (behind-kept stretch_trip trip later (drop start stretches) (omega arith)) ∙ before.left later (omega arith);
     }
 
-pub before-run : (rows : List TripCall) (trip start end : ℕ) → IsNonDecreasingBy trip_number rows → IsBefore rows trip start → end ≡ start + size_of rows trip start
-    → take (end - start) (drop start rows) ≡ filter (λ row. trip_number row == trip) rows
-before-run rows trip start end sorted before e =
-    let up = rises-index trip_number (drop start rows) (IsNonDecreasingBy-drop trip_number start rows sorted) in
-    let count : end - start ≡ size_of rows trip start = omega arith in
-    rw count (front-all trip_number trip (drop start rows) before.low up) ∙ before.left trip (omega arith)
+pub before-run : (stretches : List Stretch) (trip start end : ℕ) → IsNonDecreasingBy stretch_trip stretches → IsBefore stretches trip start → end ≡ start + size_of stretches trip start
+    → take (end - start) (drop start stretches) ≡ filter (λ stretch. stretch_trip stretch == trip) stretches
+before-run stretches trip start end sorted before e =
+    let up = rises-index stretch_trip (drop start stretches) (IsNonDecreasingBy-drop stretch_trip start stretches sorted) in
+    let count : end - start ≡ size_of stretches trip start = omega arith in
+    rw count (front-all stretch_trip trip (drop start stretches) before.low up) ∙ before.left trip (omega arith)

@@ -13,6 +13,7 @@ pub mod CallRowLemmas
 pub mod GroupLemmas
 pub mod OrderLemmas
 pub mod StableLemmas
+pub mod StretchLemmas
 pub mod TimesRiseLemmas
 pub mod TripCallLemmas
 pub mod TripListLemmas

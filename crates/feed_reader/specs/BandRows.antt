@@ -19,10 +19,11 @@ band_trip_faults trips rows number =
 abbrev pub clock_faults : ℕ → List ℕ → List ℕ → List FeedFault
 clock_faults number column bytes = fault_if (is_none (clock_of bytes)) (bad_field (place_in frequencies_file number column bytes))
 
--- the fault of a headway that is no number, and of a field that does not say whether departures are exact
+-- the fault of a headway that is no number
 abbrev pub headway_faults : List Fields → ℕ → List FeedFault
 headway_faults rows number = fault_if (is_none (whole_of (headway_field (row_at rows number)))) (bad_field (place_in frequencies_file number (codes "headway_secs") (headway_field (row_at rows number))))
 
+-- the fault of a field that does not say whether departures are exact
 abbrev pub exact_faults : List Fields → ℕ → List FeedFault
 exact_faults rows number = fault_if (not (says_exact (row_at rows number))) (bad_field (place_in frequencies_file number (codes "exact_times") (exact_field (row_at rows number))))
 

@@ -16,10 +16,11 @@ use Rattle.feed_reader.specs.Ids.{number_of, stood_before}
 abbrev pub service_id : Fields → List ℕ
 service_id row = field row 0
 
--- whether a field says yes, and whether it says yes or no
+-- whether a field of a day says that it is set
 abbrev pub is_set : List ℕ → Bool
 is_set bytes = bytes_eq bytes (codes "1")
 
+-- whether a field of a day says that it is set, or that it is not
 abbrev pub is_flag : List ℕ → Bool
 is_flag bytes = is_set bytes || bytes_eq bytes (codes "0")
 
@@ -27,6 +28,7 @@ is_flag bytes = is_set bytes || bytes_eq bytes (codes "0")
 abbrev pub day_names : List (List ℕ)
 day_names = codes "monday" ∷ codes "tuesday" ∷ codes "wednesday" ∷ codes "thursday" ∷ codes "friday" ∷ codes "saturday" ∷ codes "sunday" ∷ []
 
+-- the field of a day of a row, where Monday is day 0
 abbrev pub day_field : Fields → ℕ → List ℕ
 day_field row day = field row (1 + day)
 
@@ -62,10 +64,11 @@ pub record IsWeekOf (services : List (List ℕ)) (row : Fields) (week : Week) : 
   pub first : date_of (field row 8) ≡ Some (ymd_of week.first)
   pub last : date_of (field row 9) ≡ Some (ymd_of week.last)
 
--- whether a row adds its date, and whether it removes it
+-- whether a type of an exception adds its date
 abbrev pub adds : List ℕ → Bool
 adds bytes = bytes_eq bytes (codes "1")
 
+-- whether a type of an exception removes its date
 abbrev pub removes : List ℕ → Bool
 removes bytes = bytes_eq bytes (codes "2")
 

@@ -35,17 +35,19 @@ abbrev pub is_aside : List RowCall → Bool
 is_aside calls = nat_lt (length calls) 2
     || (list_any (λ call. is_none call.stop) calls || (not (is_timed calls 0) || not (is_timed calls (length calls - 1))))
 
--- the last timed place before this one, and the first from this one on
+-- the last timed place before this one
 abbrev pub timed_before : List RowCall → ℕ → Option ℕ
 timed_before calls place = last_or None (filter (is_timed calls) (range_with_len 0 place))
 
+-- the first timed place from this one on
 abbrev pub timed_from : List RowCall → ℕ → Option ℕ
 timed_from calls place = find (is_timed calls) (range_with_len place (length calls - place))
 
--- the arrival and the departure at a place, 0 where there is none
+-- the arrival at a place, 0 where there is none
 abbrev pub arrival_at : List RowCall → ℕ → ℕ
 arrival_at calls place = option_map_or (λ times. times.0) (times_at calls place) 0
 
+-- the departure from a place, 0 where there is none
 abbrev pub departure_at : List RowCall → ℕ → ℕ
 departure_at calls place = option_map_or (λ times. times.1) (times_at calls place) 0
 
@@ -65,10 +67,11 @@ double_faults rows before call = fault_if (before.sequence == call.sequence) (do
 abbrev pub doubles_of : List Fields → List RowCall → List FeedFault
 doubles_of rows calls = flat_map (λ pair. double_faults rows pair.0 pair.1) (zip calls (drop 1 calls))
 
--- the fault at the departure of the row of this number, and at its arrival, which is the departure where the field is empty
+-- the fault of times that fall at the departure of the row of this number
 abbrev pub departure_fall : List Fields → ℕ → FeedFault
 departure_fall rows number = fault.TimesFall (place_in stop_times_file number (codes "departure_time") (departure_field (row_at rows number)))
 
+-- the fault of times that fall at the arrival of the row of this number, which is its departure where the field is empty
 abbrev pub arrival_fall : List Fields → ℕ → FeedFault
 arrival_fall rows number =
     if is_empty (arrival_field (row_at rows number)) then departure_fall rows number

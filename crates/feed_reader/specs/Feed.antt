@@ -43,34 +43,43 @@ abbrev pub rows_of : List Column → Option (List ℕ) → List Fields
 rows_of wanted None = []
 rows_of wanted (Some bytes) = (sheet_of bytes wanted).rows
 
+-- the rows of stops.txt
 abbrev pub stop_rows : FilesData → List Fields
 stop_rows files = rows_of columns.stop_columns files.stops
 
+-- the rows of routes.txt
 abbrev pub route_rows : FilesData → List Fields
 route_rows files = rows_of columns.route_columns files.routes
 
+-- the rows of calendar.txt
 abbrev pub week_rows : FilesData → List Fields
 week_rows files = rows_of columns.calendar_columns files.calendar
 
+-- the rows of calendar_dates.txt
 abbrev pub exception_rows : FilesData → List Fields
 exception_rows files = rows_of columns.calendar_date_columns files.calendar_dates
 
+-- the rows of trips.txt
 abbrev pub trip_rows : FilesData → List Fields
 trip_rows files = rows_of columns.trip_columns files.trips
 
+-- the rows of stop_times.txt
 abbrev pub call_rows : FilesData → List Fields
 call_rows files = rows_of columns.stop_time_columns files.stop_times
 
+-- the rows of frequencies.txt
 abbrev pub band_rows : FilesData → List Fields
 band_rows files = rows_of columns.frequency_columns files.frequencies
 
+-- the rows of transfers.txt
 abbrev pub transfer_rows : FilesData → List Fields
 transfer_rows files = rows_of columns.transfer_columns files.transfers
 
--- the routes, and the services in the order of their first appearance
+-- the ids of the routes, in the order of routes.txt
 abbrev pub routes_in : FilesData → List (List ℕ)
 routes_in files = routes_of (route_rows files)
 
+-- the ids of the services in the order of their first appearance, in calendar.txt, then calendar_dates.txt, then trips.txt
 abbrev pub services_in : FilesData → List (List ℕ)
 services_in files = first_ids (map service_id (week_rows files) ++ map service_id (exception_rows files) ++ map trip_service (trip_rows files))
 

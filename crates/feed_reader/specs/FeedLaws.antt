@@ -1,4 +1,5 @@
--- What holds of each feed: its numbers name parts of it, and its trips have calls. Here: docs/FORMATS.md.
+-- What holds of each feed: the numbers in its trips, calls and bands name parts of it, and each trip has its calls.
+-- Nothing is said of stations, weeks, exceptions and transfers. Here: docs/FORMATS.md.
 use Rattle.std.specs.Prelude.{◌≡◌, ◌<◌, ◌≤◌, ◌^◌, List, All, length}
 use Rattle.gtfs_rows.specs.declared.timetable.Band.{Band}
 use Rattle.feed_reader.specs.declared.timetable.Call.{Call}
@@ -24,7 +25,7 @@ pub record IsBandOf (feed : FeedData) (band : Band) : Type 0 where
   pub some : 1 ≤ band.headway
   pub most : band.headway ≤ HEADWAY_LIMIT
 
--- the laws of a feed
+-- a feed has fewer than 2^32 stops, routes, services and trips, and a list of calls for each trip; its trips, lists of calls and bands keep their laws
 pub record IsFeed (feed : FeedData) : Type 0 where
   pub few_stops : length feed.stops < 2 ^ 32
   pub few_routes : length feed.routes < 2 ^ 32

@@ -13,36 +13,43 @@ use Rattle.feed_reader.specs.Ids.{is_known, number_of}
 abbrev pub HEADWAY_LIMIT : ℕ
 HEADWAY_LIMIT = 1000000
 
--- the fields of a row: its trip, its first and its last second, its headway, and whether departures are exact
+-- the field of a row that names its trip
 abbrev pub band_trip : Fields → List ℕ
 band_trip row = field row 0
 
+-- the field of a row with the time from which its band holds
 abbrev pub begin_field : Fields → List ℕ
 begin_field row = field row 1
 
+-- the field of a row with the time before which its band holds
 abbrev pub end_field : Fields → List ℕ
 end_field row = field row 2
 
+-- the field of a row with its headway
 abbrev pub headway_field : Fields → List ℕ
 headway_field row = field row 3
 
+-- the field of a row that says whether departures are exact
 abbrev pub exact_field : Fields → List ℕ
 exact_field row = field row 4
 
--- the values of the fields, 0 where there is none
+-- the second from which the band of a row holds, 0 where the field is no time
 abbrev pub begin_of : Fields → ℕ
 begin_of row = unwrap_or (clock_of (begin_field row)) 0
 
+-- the second before which the band of a row holds, 0 where the field is no time
 abbrev pub end_of : Fields → ℕ
 end_of row = unwrap_or (clock_of (end_field row)) 0
 
+-- the headway of a row, 0 where the field is no number
 abbrev pub headway_of : Fields → ℕ
 headway_of row = unwrap_or (whole_of (headway_field row)) 0
 
--- whether departures are exact, and whether the field says that or the opposite
+-- whether a row says that departures are exact
 abbrev pub is_exact : Fields → Bool
 is_exact row = bytes_eq (exact_field row) (codes "1")
 
+-- whether a row says that departures are exact, or that they are not
 abbrev pub says_exact : Fields → Bool
 says_exact row = is_exact row || (is_empty (exact_field row) || bytes_eq (exact_field row) (codes "0"))
 

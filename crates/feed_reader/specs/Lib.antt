@@ -26,6 +26,7 @@ pub mod StopTables
 pub mod Spreading
 pub mod StopTimes
 pub mod Stops
+pub mod Stretches
 pub mod TransferRows
 pub mod TimesRise
 pub mod Transfers

@@ -6,6 +6,7 @@ use Rattle.feed_reader.specs.Columns.{routes_file}
 use Rattle.feed_reader.specs.Faults.{Fields, bad_field, fault_if, faults_of_rows, field, is_empty, place_in, row_at}
 use Rattle.feed_reader.specs.Ids.{stood_before}
 
+-- the field of a row with the id of its route
 abbrev pub route_id : Fields → List ℕ
 route_id row = field row 0
 

@@ -11,25 +11,31 @@ use Rattle.feed_reader.specs.Columns.{stop_times_file}
 use Rattle.feed_reader.specs.Faults.{Fields, bad_field, fault_if, faults_of_rows, field, is_empty, place_in, row_at, whole_or}
 use Rattle.feed_reader.specs.Ids.{is_known, number_of}
 
--- the fields of a row: its trip, its times, its stop, its sequence, and whether passengers may board and alight
+-- the field of a row that names its trip
 abbrev pub call_trip : Fields → List ℕ
 call_trip row = field row 0
 
+-- the field of a row with its arrival
 abbrev pub arrival_field : Fields → List ℕ
 arrival_field row = field row 1
 
+-- the field of a row with its departure
 abbrev pub departure_field : Fields → List ℕ
 departure_field row = field row 2
 
+-- the field of a row that names its stop
 abbrev pub call_stop : Fields → List ℕ
 call_stop row = field row 3
 
+-- the field of a row with its sequence
 abbrev pub sequence_field : Fields → List ℕ
 sequence_field row = field row 4
 
+-- the field of a row that says whether passengers may board
 abbrev pub pickup_field : Fields → List ℕ
 pickup_field row = field row 5
 
+-- the field of a row that says whether passengers may alight
 abbrev pub drop_field : Fields → List ℕ
 drop_field row = field row 6
 

@@ -10,12 +10,15 @@ use Rattle.feed_reader.specs.Columns.{stops_file}
 use Rattle.feed_reader.specs.Faults.{Fields, bad_field, fault_if, faults_of_rows, field, is_empty, place_in, row_at, whole_or}
 use Rattle.feed_reader.specs.Ids.{number_of, stood_before}
 
+-- the field of a row with its id
 abbrev pub stop_id : Fields → List ℕ
 stop_id row = field row 0
 
+-- the field of a row with its type
 abbrev pub type_field : Fields → List ℕ
 type_field row = field row 1
 
+-- the field of a row that names its station
 abbrev pub parent_id : Fields → List ℕ
 parent_id row = field row 2
 
@@ -23,10 +26,11 @@ parent_id row = field row 2
 abbrev pub has_type : ℕ → Fields → Bool
 has_type type row = option_map_or (λ t. t == type) (whole_or 0 (type_field row)) Bool.false
 
--- the ids of the stops, and of the stations, in file order
+-- the ids of the stops, in file order
 abbrev pub stop_ids : List Fields → List (List ℕ)
 stop_ids rows = map stop_id (filter (has_type 0) rows)
 
+-- the ids of the stations, in file order
 abbrev pub station_ids : List Fields → List (List ℕ)
 station_ids rows = map stop_id (filter (has_type 1) rows)
 

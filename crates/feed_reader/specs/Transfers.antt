@@ -14,16 +14,19 @@ use Rattle.feed_reader.specs.Stops.{side_named, stop_id}
 abbrev pub TRANSFER_SECONDS : ℕ
 TRANSFER_SECONDS = 120
 
--- the fields of a row: its two stops or stations, its type and its seconds
+-- the field of a row that names the side from which it leads
 abbrev pub from_field : Fields → List ℕ
 from_field row = field row 0
 
+-- the field of a row that names the side to which it leads
 abbrev pub to_field : Fields → List ℕ
 to_field row = field row 1
 
+-- the field of a row with its type
 abbrev pub kind_field : Fields → List ℕ
 kind_field row = field row 2
 
+-- the field of a row with its seconds
 abbrev pub seconds_field : Fields → List ℕ
 seconds_field row = field row 3
 
@@ -65,9 +68,10 @@ transfer_of stops row =
     if is_passed_over row then None
     else option_and_then (λ from. option_map (transfer_with row from) (side_named stops (to_field row))) (side_named stops (from_field row))
 
--- the transfers of the rows, and how many rows are set aside
+-- the transfers of the rows, in file order
 abbrev pub transfers_of : List Fields → List Fields → List Transfer
 transfers_of stops rows = filter_map (transfer_of stops) rows
 
+-- how many rows are set aside
 abbrev pub transfers_aside : List Fields → List Fields → ℕ
 transfers_aside stops rows = count_by (λ row. is_none (transfer_of stops row)) rows

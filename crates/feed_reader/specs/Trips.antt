@@ -7,12 +7,15 @@ use Rattle.feed_reader.specs.Columns.{trips_file}
 use Rattle.feed_reader.specs.Faults.{Fields, bad_field, fault_if, faults_of_rows, field, is_empty, place_in, row_at}
 use Rattle.feed_reader.specs.Ids.{is_known, number_of, stood_before}
 
+-- the field of a row that names its route
 abbrev pub trip_route : Fields → List ℕ
 trip_route row = field row 0
 
+-- the field of a row that names its service
 abbrev pub trip_service : Fields → List ℕ
 trip_service row = field row 1
 
+-- the field of a row with the id of its trip
 abbrev pub trip_id : Fields → List ℕ
 trip_id row = field row 2
 

@@ -17,11 +17,11 @@ ghost use Rattle.feed_reader.specs.Calls.{arrival_fall, departure_fall, double_s
 ghost use Rattle.feed_reader.specs.declared.fault.FeedFault.TheVariants as fault;
 
 use crate::call_fault::CallFault;
+use crate::call_rows::CallRows;
 use crate::cells::{place_in, text_at};
 use crate::columns::stop_time_columns;
 use crate::fault::FeedFault;
 use crate::ids::Ids;
-use crate::order::TripCall;
 use crate::refusals::double_id;
 use crate::sheets::read_sheet;
 use crate::stop_times::read_rows;
@@ -69,8 +69,8 @@ fn read_row_bytes(
     bytes: &[u8],
     stops: &StopTable,
     trips: &Ids,
-) -> Result<Vec<TripCall>, FeedFault>
-    ensures calls { IfOk result (λ calls. calls.items
+) -> Result<CallRows, FeedFault>
+    ensures calls { IfOk result (λ calls. calls
         ≡ trip_call_rows trips.now (stop_ids stops.now) (rows_in bytes.now)) }
     ensures faultless { OnOk result
         (map fault.Row (sheet_faults stop_times_file bytes.now stop_time_columns) ≡ []) }

@@ -165,3 +165,6 @@ impl Feed {
         self.aside
     }
 }
+
+#[cfg(test)]
+mod tests;

@@ -194,3 +194,6 @@ fn too_long(limit: FetchLimit, count: u64) -> FetchFault
         count: u128::from(count),
     }
 }
+
+#[cfg(test)]
+mod tests;

@@ -6,6 +6,7 @@ mod calendars;
 mod call_fault;
 mod call_file;
 mod call_lists;
+mod call_rows;
 mod call_times;
 mod calls;
 mod cells;

@@ -1,10 +1,12 @@
-//! The rows of stop_times.txt by trip, and those of one trip by sequence.
+//! The stretches of rows by trip, and the calls of one trip by sequence.
 
-ghost use Rattle.std.specs.Prelude.{◌≡◌, ◌==◌, ◌≤◌, ℕ, OnOk, filter, true};
-ghost use Rattle.std.specs.List.Sorted.{IsNonDecreasingBy};
+ghost use Rattle.std.specs.Prelude.{◌≡◌, ℕ, OnOk, filter, true};
+ghost use Rattle.std.specs.List.Sorted.{IsNonDecreasingBy, IsPermutation};
 ghost use Rattle.feed_reader.specs.StopTimes.{in_sequence};
-ghost use Rattle.feed_reader.specs.TripCalls.{sequence_of, trip_number};
+ghost use Rattle.feed_reader.specs.Stretches.{is_stretch_of, stretch_trip};
+ghost use Rattle.feed_reader.specs.TripCalls.{sequence_of};
 
+use crate::call_rows::Stretch;
 use crate::row_call::RowCall;
 use gtfs_rows::NoMemory;
 
@@ -15,30 +17,16 @@ pub(crate) struct TripCall {
     pub call: RowCall,
 }
 
-// Whether the rows stand by trip.
-fn stand_by_trip(rows: &[TripCall]) -> bool
-    ensures sorted { result ≡ true → IsNonDecreasingBy trip_number rows.now }
-{
-    for place in 1..rows.len() {
-        if rows[place].trip < rows[place - 1].trip {
-            return false;
-        }
-    }
-    true
-}
-
-/// Puts the rows in the order of their trips. Those of one trip stay as they stand.
-pub(crate) fn group_by_trip(rows: &mut Vec<TripCall>) -> Result<(), NoMemory>
-    ensures sorted { OnOk result (IsNonDecreasingBy trip_number rows.new.items) }
+/// Puts the stretches in the order of their trips. Those of one trip stay as they stand.
+pub(crate) fn group_by_trip(stretches: &mut Vec<Stretch>) -> Result<(), NoMemory>
+    ensures sorted { OnOk result (IsNonDecreasingBy stretch_trip stretches.new.items) }
     ensures each { OnOk result (
-        (trip : ℕ) → filter (λ row. trip_number row == trip) rows.new.items
-        ≡ filter (λ row. trip_number row == trip) rows.old.items
+        (trip : ℕ) → filter (is_stretch_of trip) stretches.new.items
+        ≡ filter (is_stretch_of trip) stretches.old.items
         ) }
+    ensures same { IsPermutation stretches.old.items stretches.new.items }
 {
-    if stand_by_trip(rows.as_slice()) {
-        return Ok(());
-    }
-    rows.sort_by_key(|row| row.trip)?;
+    stretches.sort_by_key(|stretch| stretch.trip)?;
     Ok(())
 }
 

@@ -4,9 +4,10 @@
 /// is empty, and a stop where it is empty or names none.
 #[derive(Clone, Copy, Debug, Drop)]
 pub(crate) struct RowCall {
+    // Fields lie in this order, so that a row takes 40 bytes.
+    pub sequence: u64,
     /// The number of the row, counted from 0 behind the header.
     pub row: u32,
-    pub sequence: u64,
     pub stop: Option<u32>,
     pub arrival: Option<u32>,
     pub departure: Option<u32>,

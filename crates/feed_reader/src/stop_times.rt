@@ -8,6 +8,7 @@ ghost use Rattle.feed_reader.specs.Ids.{number_of};
 ghost use Rattle.feed_reader.specs.StopTimes.{arrival_field, call_faults, call_trip, calls_faults, departure_field, drop_field, is_available, kind_faults, pickup_field, row_call, time_faults};
 ghost use Rattle.feed_reader.specs.Stops.{stop_id, stop_ids};
 
+use crate::call_rows::CallRows;
 use crate::cells::{text_at, whole_or};
 use crate::fault::FeedFault;
 use crate::ids::Ids;
@@ -30,10 +31,10 @@ pub(crate) fn read_rows(
     sheet: &Sheet,
     stops: &StopTable,
     trips: &Ids,
-) -> Result<Vec<TripCall>, FeedFault>
+) -> Result<CallRows, FeedFault>
     requires width { sheet.now.width ≡ 7 }
     ensures calls { IfOk result
-        (λ calls. calls.items ≡ trip_call_rows trips.now (stop_ids stops.now) sheet.now.rows) }
+        (λ calls. calls ≡ trip_call_rows trips.now (stop_ids stops.now) sheet.now.rows) }
     ensures faultless { OnOk result
         (calls_faults trips.now (map stop_id stops.now) sheet.now.rows ≡ []) }
     ensures refused { IfErr result
@@ -43,7 +44,7 @@ pub(crate) fn read_rows(
     if count > 4_294_967_295 {
         return Err(FeedFault::NoMemory);
     }
-    let mut calls = Vec::with_capacity(alloc, count as usize)?;
+    let mut calls = CallRows::with_capacity(alloc, count as usize)?;
     let mut last = "";
     let mut number = trips.find(last);
     for row in 0..count {

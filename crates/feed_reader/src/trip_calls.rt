@@ -1,17 +1,20 @@
 //! The calls of the trips of trips.txt, from the rows of stop_times.txt as they stand in the file.
 
-ghost use Rattle.std.specs.Prelude.{◌≡◌, ◌≤◌, ◌+◌, ◌++◌, ◌∷◌, [], All, IfErr, IfOk, OnOk, drop, is_some, length, option_map};
+ghost use Rattle.std.specs.Prelude.{◌≡◌, ◌≤◌, ◌+◌, ◌++◌, ◌∷◌, [], All, IfErr, IfOk, OnOk, drop, flat_map, is_some, length, option_map};
 ghost use Rattle.std.specs.List.{prefix_len};
 ghost use Rattle.std.specs.List.Sorted.{IsNonDecreasingBy};
 ghost use Rattle.std.specs.Vec.{vec_items};
 ghost use Rattle.feed_reader.specs.CallFaults.{HasNoCallFault, IsFirstCallFault};
+ghost use Rattle.feed_reader.specs.StopTimes.{in_sequence};
+ghost use Rattle.feed_reader.specs.Stretches.{IsWithin, calls_on, is_stretch_of, rows_on, stretch_trip};
 ghost use Rattle.feed_reader.specs.TimesRise.{TimesRise};
-ghost use Rattle.feed_reader.specs.TripCalls.{calls_by_sequence, faults_of_trips, is_of, kept_of, list_kept, lists_of, trip_number};
+ghost use Rattle.feed_reader.specs.TripCalls.{faults_of_trips, kept_of, list_kept, lists_of};
 
 use crate::call_fault::CallFault;
 use crate::call_lists::CallLists;
+use crate::call_rows::{CallRows, Stretch};
 use crate::calls::read_calls;
-use crate::order::{TripCall, group_by_trip, order_by_sequence};
+use crate::order::{group_by_trip, order_by_sequence};
 use crate::row_call::RowCall;
 use crate::timetable::Call;
 use gtfs_rows::NoMemory;
@@ -40,40 +43,69 @@ impl TripCalls {
     }
 }
 
-// The end of the rows of this trip that begin at a place.
-fn end_of(rows: &[TripCall], start: usize, trip: u32) -> usize
-    requires start { start ≤ length rows.now }
-    ensures value { result ≡ start + prefix_len (is_of trip) (drop start rows.now) }
-    ensures within { result ≤ length rows.now }
+// The end of the stretches of this trip that begin at a place.
+fn end_of(stretches: &[Stretch], start: usize, trip: u32) -> usize
+    requires start { start ≤ length stretches.now }
+    ensures value { result ≡ start + prefix_len (is_stretch_of trip) (drop start stretches.now) }
+    ensures within { result ≤ length stretches.now }
 {
-    for place in start..rows.len() {
-        if rows[place].trip != trip {
+    for place in start..stretches.len() {
+        if stretches[place].trip != trip {
             return place;
         }
     }
-    rows.len()
+    stretches.len()
 }
 
-// The calls of these rows by sequence.
-fn calls_by_sequence(alloc: Global, rows: &[TripCall]) -> Result<Vec<RowCall>, NoMemory>
-    ensures value { IfOk result (λ calls. calls.items ≡ calls_by_sequence rows.now) }
+// The calls of these stretches by sequence.
+fn calls_by_sequence(
+    alloc: Global,
+    calls: &[RowCall],
+    stretches: &[Stretch],
+) -> Result<Vec<RowCall>, NoMemory>
+    requires within { All (IsWithin (length calls.now)) stretches.now }
+    ensures value { IfOk result
+        (λ found. found.items ≡ in_sequence (flat_map (calls_on calls.now) stretches.now)) }
 {
-    let mut calls = Vec::new(alloc);
-    for row in rows {
-        calls.push(row.call)?;
+    let mut found = Vec::new(alloc);
+    for stretch in stretches {
+        append_calls(&mut found, calls, *stretch)?;
     }
-    order_by_sequence(&mut calls)?;
-    Ok(calls)
+    order_by_sequence(&mut found)?;
+    Ok(found)
 }
 
-// The calls of so many trips from rows that stand by trip.
-fn read_groups(alloc: Global, trips: u32, rows: &[TripCall]) -> Result<TripCalls, CallFault>
-    requires sorted { IsNonDecreasingBy trip_number rows.now }
-    ensures kept { IfOk result (λ found. found.kept.items ≡ kept_of rows.now trips) }
-    ensures lists { IfOk result (λ found. found.lists ≡ lists_of rows.now trips) }
+// Appends the calls of a stretch.
+fn append_calls(
+    found: &mut Vec<RowCall>,
+    calls: &[RowCall],
+    stretch: Stretch,
+) -> Result<(), NoMemory>
+    requires within { IsWithin (length calls.now) stretch }
+    ensures ok { OnOk result (found.new.items ≡ found.old.items ++ calls_on calls.now stretch) }
+{
+    found.extend_from_slice(&calls[stretch.start..stretch.end])?;
+    Ok(())
+}
+
+// The calls of so many trips from stretches that stand by trip.
+fn read_groups(
+    alloc: Global,
+    trips: u32,
+    calls: &[RowCall],
+    stretches: &[Stretch],
+) -> Result<TripCalls, CallFault>
+    requires sorted { IsNonDecreasingBy stretch_trip stretches.now }
+    requires within { All (IsWithin (length calls.now)) stretches.now }
+    ensures kept { IfOk result
+        (λ found. found.kept.items ≡ kept_of (rows_on calls.now stretches.now) trips) }
+    ensures lists { IfOk result
+        (λ found. found.lists ≡ lists_of (rows_on calls.now stretches.now) trips) }
     ensures rising { IfOk result (λ found. All TimesRise found.lists) }
-    ensures faultless { OnOk result (HasNoCallFault (faults_of_trips rows.now trips)) }
-    ensures refused { IfErr result (IsFirstCallFault (faults_of_trips rows.now trips)) }
+    ensures faultless { OnOk result
+        (HasNoCallFault (faults_of_trips (rows_on calls.now stretches.now) trips)) }
+    ensures refused { IfErr result
+        (IsFirstCallFault (faults_of_trips (rows_on calls.now stretches.now) trips)) }
 {
     let mut found = TripCalls {
         kept: Vec::new(alloc),
@@ -81,9 +113,9 @@ fn read_groups(alloc: Global, trips: u32, rows: &[TripCall]) -> Result<TripCalls
     };
     let mut start = 0;
     for trip in 0..trips {
-        let end = end_of(rows, start, trip);
-        let calls = calls_by_sequence(alloc, &rows[start..end])?;
-        let read = read_calls(alloc, calls.as_slice())?;
+        let end = end_of(stretches, start, trip);
+        let list = calls_by_sequence(alloc, calls, &stretches[start..end])?;
+        let read = read_calls(alloc, list.as_slice())?;
         found.push(read)?;
         start = end;
     }
@@ -96,18 +128,14 @@ fn read_groups(alloc: Global, trips: u32, rows: &[TripCall]) -> Result<TripCalls
 /// # Refusals
 ///
 /// The first fault of the trips, one trip after the other. `NoMemory` may come in its place.
-pub(crate) fn read_trips(
-    alloc: Global,
-    trips: u32,
-    rows: Vec<TripCall>,
-) -> Result<TripCalls, CallFault>
-    ensures kept { IfOk result (λ found. found.kept.items ≡ kept_of rows.items trips) }
-    ensures lists { IfOk result (λ found. found.lists ≡ lists_of rows.items trips) }
+pub(crate) fn read_trips(alloc: Global, trips: u32, rows: CallRows) -> Result<TripCalls, CallFault>
+    ensures kept { IfOk result (λ found. found.kept.items ≡ kept_of rows trips) }
+    ensures lists { IfOk result (λ found. found.lists ≡ lists_of rows trips) }
     ensures rising { IfOk result (λ found. All TimesRise found.lists) }
-    ensures faultless { OnOk result (HasNoCallFault (faults_of_trips rows.items trips)) }
-    ensures refused { IfErr result (IsFirstCallFault (faults_of_trips rows.items trips)) }
+    ensures faultless { OnOk result (HasNoCallFault (faults_of_trips rows trips)) }
+    ensures refused { IfErr result (IsFirstCallFault (faults_of_trips rows trips)) }
 {
-    let mut rows = rows;
-    group_by_trip(&mut rows)?;
-    read_groups(alloc, trips, rows.as_slice())
+    let (calls, mut stretches) = rows.into_parts()?;
+    group_by_trip(&mut stretches)?;
+    read_groups(alloc, trips, calls.as_slice(), stretches.as_slice())
 }

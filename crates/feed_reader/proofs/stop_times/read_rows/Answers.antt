@@ -17,7 +17,7 @@ pub loop-row-preserved : goal.loop-row-preserved
 loop-row-preserved c =
     let lt : c.loop-row.row < length c.args.sheet.now.rows = omega arith in (
       c.text_at-last.utf8,
-      calls-next (trip_call c.args.trips.now (stop_ids c.args.stops.now)) c.args.sheet.now.rows c.loop-row.row c.loop-row.calls.items _ c.in_ok-call.call lt c.loop-row.invariant.1 c.in_ok-call.ensures.call c.in_ok-push.ensures.items,
+      calls-next (trip_call c.args.trips.now (stop_ids c.args.stops.now)) c.args.sheet.now.rows c.loop-row.row c.loop-row.calls _ c.in_ok-call.call lt c.loop-row.invariant.1 c.in_ok-call.ensures.call c.in_ok-push.ensures.ok,
       none-more (call_faults c.args.trips.now (map stop_id c.args.stops.now) c.args.sheet.now.rows) c.loop-row.row c.loop-row.invariant.2 c.in_ok-call.ensures.faultless,
       rw c.text_at-last.ensures.value (sym c.in_ok-call.ensures.trip),
     )

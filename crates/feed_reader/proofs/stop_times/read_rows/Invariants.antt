@@ -11,6 +11,6 @@ use Rattle.feed_reader.proofs.stop_times.read_rows.Given as goal
 
 abbrev pub invariant-loop-row : goal.invariant-loop-row
 invariant-loop-row l = shadow (Utf8 l.last)
-    × (l.calls.items ≡ map (trip_call l.trips (stop_ids l.stops)) (enumerate_from 0 (take l.row l.sheet.rows)))
+    × (l.calls ≡ map (trip_call l.trips (stop_ids l.stops)) (enumerate_from 0 (take l.row l.sheet.rows)))
     × (flat_map (call_faults l.trips (map stop_id l.stops) l.sheet.rows) (range_with_len 0 l.row) ≡ [])
     × (l.number ≡ number_of l.trips l.last)

@@ -1,5 +1,7 @@
-use Rattle.std.proofs.Common.{◌≡◌, map, take}
+use Rattle.std.proofs.Common.{◌≡◌, take}
+use Rattle.std.specs.Prelude.{flat_map}
+use Rattle.feed_reader.specs.Stretches.{calls_on}
 use Rattle.feed_reader.proofs.trip_calls.calls_by_sequence.Given as goal
 
-abbrev pub invariant-loop-row : goal.invariant-loop-row
-invariant-loop-row l = l.calls.items ≡ map (λ row. row.call) (take l.row-index l.rows)
+abbrev pub invariant-loop-stretch : goal.invariant-loop-stretch
+invariant-loop-stretch l = l.found.items ≡ flat_map (calls_on l.calls) (take l.stretch-index l.stretches)
