@@ -18,7 +18,7 @@ use Rattle.demand.specs.Laws.{IsPairAmong}
 use Rattle.demand.specs.Pairs.{has_units, pairs_of}
 use Rattle.demand.proofs.FaultLemmas.{front-none, rest-none, test-false}
 use Rattle.demand.proofs.IdLemmas.{known-within, number-found, same-bytes}
-use Rattle.demand.proofs.PairLemmas.{pairs-kept}
+use Rattle.demand.proofs.UnitlessLemmas.{pairs-kept}
 use Rattle.demand.proofs.RowLemmas.{filter-more, kept-more}
 
 not-false : (b : Bool) → not b ≡ false → b ≡ true

@@ -11,3 +11,4 @@ pub mod RowLemmas
 pub mod SortLemmas
 pub mod TableLemmas
 pub mod UnitLemmas
+pub mod UnitlessLemmas

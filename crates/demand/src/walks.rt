@@ -80,11 +80,7 @@ impl Walks {
 }
 
 // The walks of the rows of a sheet.
-pub(crate) fn read_rows(
-    alloc: Global,
-    sheet: &Sheet,
-    stops: &StopNumbers,
-) -> Result<Vec<WalkRow>, DemandFault>
+fn read_rows(alloc: Global, sheet: &Sheet, stops: &StopNumbers) -> Result<Vec<WalkRow>, DemandFault>
     requires width { sheet.now.width ≡ 3 }
     ensures walks { IfOk result (λ walks. walks.items ≡ walks_of stops.now sheet.now.rows) }
     ensures faultless { OnOk result (walks_faults stops.now sheet.now.rows ≡ []) }

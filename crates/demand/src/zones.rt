@@ -104,11 +104,7 @@ impl Zones {
 }
 
 // The zones of the rows of a sheet.
-pub(crate) fn read_rows(
-    alloc: Global,
-    sheet: &Sheet,
-    stops: &StopNumbers,
-) -> Result<Zones, DemandFault>
+fn read_rows(alloc: Global, sheet: &Sheet, stops: &StopNumbers) -> Result<Zones, DemandFault>
     requires width { sheet.now.width ≡ 3 }
     ensures zones { IfOk result (λ zones. zones ≡ zones_data stops.now sheet.now.rows) }
     ensures faultless { OnOk result (zones_faults stops.now sheet.now.rows ≡ []) }

@@ -14,7 +14,8 @@ use Rattle.headways.specs.declared.line.Line.{Line}
 use Rattle.headways.specs.declared.line.LinePlace.{LinePlace}
 use Rattle.headways.specs.declared.means.Part.{Part}
 use Rattle.headways.specs.declared.means.Part.TheVariants.{Ride, Dwell}
-use Rattle.headways.specs.Faults.{COST_LIMIT, IsFirstFault, cost_faults, limit_faults, line_faults}
+use Rattle.headways.specs.Faults.{IsFirstFault, cost_faults, limit_faults, line_faults}
+use Rattle.definitions.specs.declared.limits.TheConstants.{COST_LIMIT}
 use Rattle.headways.specs.Lines.{dwell_of, ride_of, route_of}
 use Rattle.headways.specs.Means.{begin_of, mean_of, means_of}
 

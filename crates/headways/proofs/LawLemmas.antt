@@ -1,5 +1,5 @@
 -- What holds of each line that has no fault.
-use Rattle.std.proofs.Common.{◌≡◌, ℕ, zero, suc, ◌+◌, ◌-◌, ◌*◌, ◌/◌, ◌<◌, ◌≤◌, true, false, List, [], ◌∷◌, ◌++◌, length, get_or, refl, sym, ap, ◌∙◌, inl, inr, arith}
+use Rattle.std.proofs.Common.{◌≡◌, ℕ, ◌-◌, ◌<◌, ◌≤◌, List, [], ◌∷◌, ◌++◌, length, get_or, refl, sym, ◌∙◌, inl, inr, arith}
 use Rattle.std.specs.Prelude.{All, flat_map, map, max, nat_lt, slice_index, sum_by}
 use Rattle.std.specs.List.{range_with_len}
 use Rattle.std.proofs.lemmas.Bool.{cases_Bool}
@@ -14,11 +14,12 @@ use Rattle.feed_reader.specs.FeedLaws.{IsFeed}
 use Rattle.headways.specs.declared.fault.Limit.{Limit}
 use Rattle.headways.specs.declared.fault.Limit.TheVariants as limit
 use Rattle.headways.specs.declared.fault.LineFault.{LineFault}
-use Rattle.headways.specs.declared.line.Line.{Line}
-use Rattle.headways.specs.Faults.{COST_LIMIT, WEIGHT_LIMIT, cost_faults, limit_faults, line_faults, weight_faults}
+use Rattle.headways.specs.Faults.{cost_faults, limit_faults, line_faults, weight_faults}
+use Rattle.definitions.specs.declared.limits.TheConstants.{COST_LIMIT, WEIGHT_LIMIT}
 use Rattle.headways.specs.Laws.{IsCost, IsLineOf}
-use Rattle.headways.specs.Lines.{dwell_of, firsts, line_of, lines_by, members, place_of, ride_of, route_of}
+use Rattle.headways.specs.Lines.{dwell_of, firsts, line_of, lines_by, members, place_of, ride_of}
 use Rattle.headways.specs.TripWeights.{calls_of}
+use Rattle.headways.proofs.CountedLemmas.{firsts-few}
 use Rattle.headways.proofs.MemberLemmas.{firsts-below, firsts-weigh}
 use Rattle.headways.proofs.FaultLemmas.{faults-of-lines}
 
@@ -86,3 +87,10 @@ lines-law feed weights h none =
     let each = none-each (λ first. line_faults (line_of feed weights first)) (firsts feed weights) (sym (faults-of-lines (line_of feed weights) (firsts feed weights)) ∙ none) in
     All-map (IsLineOf feed) (line_of feed weights) (firsts feed weights) (λ k d lt.
     line-law feed weights (get_or (firsts feed weights) k d) h (firsts-below feed weights (length feed.trips) k d lt) (firsts-weigh feed weights k d lt) (each k d lt))
+
+-- there are no more lines than trips
+pub lines-few : (feed : FeedData) (weights : List ℕ) → length (lines_by feed weights) ≤ length feed.trips
+lines-few feed weights =
+    let size = length-map (firsts feed weights) (line_of feed weights) in
+    let few = firsts-few feed weights (length feed.trips) in
+    omega arith

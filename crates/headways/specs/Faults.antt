@@ -1,5 +1,6 @@
 -- The faults of lines: what passes a limit. Here: docs/FORMATS.md.
 use Rattle.std.specs.Prelude.{◌≡◌, ◌⊎◌, ◌++◌, ℕ, List, [], ◌∷◌, Some, flat_map, nat_lt, if◌then◌else◌, slice_get}
+use Rattle.definitions.specs.declared.limits.TheConstants.{COST_LIMIT, WEIGHT_LIMIT}
 use Rattle.feed_reader.specs.Feed.{FeedData}
 use Rattle.service_period.specs.Periods.{PeriodData}
 use Rattle.headways.specs.declared.fault.Limit.{Limit}
@@ -8,14 +9,6 @@ use Rattle.headways.specs.declared.fault.LineFault.{LineFault}
 use Rattle.headways.specs.declared.fault.LineFault.TheVariants as fault
 use Rattle.headways.specs.declared.line.Line.{Line}
 use Rattle.headways.specs.Lines.{lines_of}
-
--- the greatest weight of a line
-abbrev pub WEIGHT_LIMIT : ℕ
-WEIGHT_LIMIT = 4294967295
-
--- the greatest ticks of a ride or a dwell
-abbrev pub COST_LIMIT : ℕ
-COST_LIMIT = 1000000000
 
 -- the fault of a count that is past its limit
 abbrev pub limit_faults : Limit → ℕ → ℕ → List LineFault

@@ -1,8 +1,8 @@
 -- What holds of each line of a feed. Here: docs/FORMATS.md.
 use Rattle.std.specs.Prelude.{◌≡◌, ◌<◌, ◌≤◌, ◌+◌, ℕ, List, All, length}
+use Rattle.definitions.specs.declared.limits.TheConstants.{COST_LIMIT, WEIGHT_LIMIT}
 use Rattle.feed_reader.specs.Feed.{FeedData}
 use Rattle.headways.specs.declared.line.Line.{Line}
-use Rattle.headways.specs.Faults.{COST_LIMIT, WEIGHT_LIMIT}
 
 -- a time of at least one tick, and within the limit
 abbrev pub IsCost : ℕ → Type 0

@@ -1,14 +1,11 @@
 //! The limits of a line.
 
 ghost use Rattle.std.specs.Prelude.{◌≡◌, ◌≤◌, [], IfErr, IfOk, OnOk};
-ghost use Rattle.headways.specs.Faults.{COST_LIMIT, IsFirstFault, WEIGHT_LIMIT, limit_faults, weight_faults};
+ghost use Rattle.headways.specs.Faults.{IsFirstFault, limit_faults, weight_faults};
 ghost use Rattle.headways.specs.declared.fault.Limit.TheVariants as limit;
 
 use crate::fault::{Limit, LineFault};
-
-const WEIGHT_LIMIT: u32 = 4_294_967_295;
-
-const COST_LIMIT: u32 = 1_000_000_000;
+use definitions::{COST_LIMIT, WEIGHT_LIMIT};
 
 // The count, where it is not past its limit.
 fn within(limit: Limit, most: u32, count: u128) -> Result<u32, LineFault>

@@ -1,6 +1,6 @@
 //! The lines of a feed in a period.
 
-ghost use Rattle.std.specs.Prelude.{◌≡◌};
+ghost use Rattle.std.specs.Prelude.{◌≡◌, ◌<◌, ◌^◌, length};
 
 use crate::line::Line;
 use std::marker::Model;
@@ -14,15 +14,19 @@ pub struct Lines {
 }
 
 impl Model for Lines {
+    ghost use Rattle.std.specs.Prelude.{◌<◌, ◌^◌, length};
     ghost use Rattle.headways.specs.Lines.{LinesData};
 
     ghost Value = { LinesData };
 
     ghost view = { λ found. record { lines = found.lines.items; trips = found.trips } };
+
+    ghost invariant = { λ found. length found.lines.items < 2 ^ 32 };
 }
 
 impl Lines {
     pub(crate) fn new(lines: Vec<Line>, trips: u64) -> Lines
+        requires few { length lines.items < 2 ^ 32 }
         ensures lines { result.lines ≡ lines.items }
         ensures trips { result.trips ≡ trips }
     {
@@ -32,6 +36,7 @@ impl Lines {
     /// The lines, in the order of their first counted trips.
     pub fn list(&self) -> &[Line]
         ensures value { result.now ≡ self.now.lines }
+        ensures few { length result.now < 2 ^ 32 }
     {
         self.lines.as_slice()
     }

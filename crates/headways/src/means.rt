@@ -1,12 +1,13 @@
 //! Mean rides and dwells of the trips of a line.
 
 ghost use Rattle.std.specs.Prelude.{◌≡◌, ◌<◌, ◌≤◌, ◌*◌, ◌+◌, ◌^◌, [], All, IfErr, IfOk, OnOk, length, slice_index, sum_by};
-ghost use Rattle.headways.specs.Faults.{IsFirstFault, WEIGHT_LIMIT, cost_faults};
+ghost use Rattle.headways.specs.Faults.{IsFirstFault, cost_faults};
 ghost use Rattle.headways.specs.Means.{AreTrips, begin_of, mean_of, means_of, seconds_of};
 ghost use Rattle.headways.specs.TripWeights.{arrival_at, calls_of, departure_at};
 
 use crate::fault::LineFault;
 use crate::limits::cost_of;
+use definitions::WEIGHT_LIMIT;
 use feed_reader::{Call, Feed};
 use std::alloc::Global;
 

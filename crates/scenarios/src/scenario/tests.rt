@@ -1,48 +1,60 @@
-//! Scenarios of texts over the routes R1 and R2 and the stops A, B and C.
+//! Scenarios of texts over a feed of the routes R1 and R2 and the stops A, B and C.
+
+ghost use Rattle.scenarios.specs.Feeds.{IsOfFeed};
 
 use super::*;
 use crate::fare::TimeFare;
-use gtfs_rows::{Place, RowFault};
+use feed_reader::Files;
+use gtfs_rows::{Blob, Place, RowFault};
 use std::alloc::AllocError;
 use std::str::from_utf8;
 use std::test::Fail;
 
-// These ids.
-fn index_of<'a>(alloc: Global, ids: &[&'a str]) -> Result<Index<'a>, NoMemory> {
-    let ids = Vec::from_slice(alloc, ids)?;
-    if ids.len() > 9 {
-        return Err(NoMemory);
+const FILES: [(u32, &str); 5] = [
+    (0, "stop_id\nA\nB\nC\n"),
+    (1, "route_id\nR1\nR2\n"),
+    (3, "service_id,date,exception_type\nD,20250602,1\n"),
+    (4, "route_id,service_id,trip_id\n"),
+    (
+        5,
+        "trip_id,arrival_time,departure_time,stop_id,stop_sequence\n",
+    ),
+];
+
+// The feed of these files.
+fn small_city(alloc: Global) -> Result<Feed, Fail> {
+    let mut files = Files::none();
+    for (place, text) in FILES {
+        put(alloc, &mut files, place, text)?;
     }
-    Index::new(alloc, ids)
+    Feed::read(alloc, &files).map_err(|_| "a feed".into())
 }
 
-// The scenario of these rows below the header.
-fn read(alloc: Global, rows: &str) -> Result<Scenario, ScenarioFault> {
-    let mut text = String::from_str(alloc, "edit,target,value\n")?;
-    text.push_str(rows)?;
-    let sheet = read_sheet(alloc, text.as_str().as_bytes())?;
-    let routes = index_of(alloc, &["R1", "R2"])?;
-    let stops = index_of(alloc, &["A", "B", "C"])?;
-    read_rows(alloc, &sheet, &routes, &stops)
+// Puts a short file at a place below 8.
+fn put(alloc: Global, files: &mut Files, place: u32, text: &str) -> Result<(), Fail> {
+    let bytes = text.as_bytes().to_vec(alloc)?;
+    if bytes.as_slice().len() > 1000 || place > 7 {
+        return Err("a short file at a place".into());
+    }
+    files.set(place, Blob::new(bytes));
+    Ok(())
 }
 
 // The wait and the pace; for each route the weight of 999 and the ticks of a first and a later
 // boarding; and a dot for each open stop, an x for each closed one.
-fn shown(alloc: Global, scenario: &Scenario) -> Result<String, AllocError> {
+fn shown(alloc: Global, feed: &Feed, scenario: &Scenario) -> Result<String, AllocError>
+    requires size { IsOfFeed feed.now scenario.now }
+{
     let mut text = format!(in alloc; "{} {}", scenario.wait(), scenario.pace())?;
-    for route in 0..9u32 {
-        if (route as usize) < scenario.scales.len() {
-            let weight = scenario.weight(route, 999);
-            let first = scenario.ticks(route, Layer::First);
-            let later = scenario.ticks(route, Layer::Later);
-            text.push_str(format!(in alloc; "/{weight} {first} {later}")?.as_str())?;
-        }
+    for route in 0..feed.routes().len() as u32 {
+        let weight = scenario.weight(route, 999);
+        let first = scenario.ticks(route, Layer::First);
+        let later = scenario.ticks(route, Layer::Later);
+        text.push_str(format!(in alloc; "/{weight} {first} {later}")?.as_str())?;
     }
     text.push('/')?;
-    for stop in 0..9u32 {
-        if (stop as usize) < scenario.closed.len() {
-            text.push(if scenario.closed(stop) { 'x' } else { '.' })?;
-        }
+    for stop in 0..feed.stops().len() as u32 {
+        text.push(if scenario.closed(stop) { 'x' } else { '.' })?;
     }
     Ok(text)
 }
@@ -55,15 +67,31 @@ fn told(alloc: Global, name: &str, place: &Place) -> Result<String, AllocError> 
     format!(in alloc; "{name}: {file} {} {column} {field}", place.row)
 }
 
-// What is read of rows: what the scenario says, or the fault.
-fn said(alloc: Global, rows: &str) -> Result<String, AllocError> {
-    match read(alloc, rows) {
-        Ok(scenario) => shown(alloc, &scenario),
-        Err(ScenarioFault::Row(_)) => String::from_str(alloc, "row"),
+// What is read of a text: what the scenario says, or the fault.
+fn said(alloc: Global, feed: &Feed, text: &str) -> Result<String, AllocError> {
+    match Scenario::read(alloc, text.as_bytes(), feed) {
+        Ok(scenario) => shown(alloc, feed, &scenario),
+        Err(ScenarioFault::Row(fault)) => row_told(alloc, fault),
         Err(ScenarioFault::UnknownId(place)) => told(alloc, "unknown id", &place),
         Err(ScenarioFault::BadValue(place)) => told(alloc, "bad value", &place),
         Err(ScenarioFault::NoMemory) => Err(AllocError),
     }
+}
+
+// What a fault of the sheet tells.
+fn row_told(alloc: Global, fault: RowFault) -> Result<String, AllocError> {
+    match fault {
+        RowFault::NoHeader(place) => told(alloc, "no header", &place),
+        RowFault::MissingColumn(place) => told(alloc, "missing column", &place),
+        RowFault::RowWidth(place) => told(alloc, "row width", &place),
+        _ => String::from_str(alloc, "another fault"),
+    }
+}
+
+// What is read of the rows below the header.
+fn rows_said(alloc: Global, feed: &Feed, rows: &str) -> Result<String, AllocError> {
+    let text = format!(in alloc; "edit,target,value\n{rows}")?;
+    said(alloc, feed, text.as_str())
 }
 
 const EDITS: [(&str, &str); 14] = [
@@ -105,8 +133,13 @@ const EDITS: [(&str, &str); 14] = [
 
 #[test]
 fn says_what_the_last_row_of_each_edit_and_target_says(rt: HostRuntime) -> Result<(), Fail> {
+    let feed = small_city(rt.alloc())?;
     for (rows, want) in EDITS {
-        assert_eq!(rt; said(rt.alloc(), rows)?.as_str(), want, "at {rows}");
+        assert_eq!(rt;
+            rows_said(rt.alloc(), &feed, rows)?.as_str(),
+            want,
+            "at {rows}"
+        );
     }
     Ok(())
 }
@@ -140,39 +173,60 @@ const FAULTS: [(&str, &str); 18] = [
         "wait,,50\nwait,,201\nscale,R9,5\n",
         "bad value: scenario 3 value 201",
     ),
-    ("wait,,201\nwait\n", "row"),
+    // The width of a row is judged before any field.
+    ("wait,,201\nwait\n", "row width: scenario 3  "),
 ];
 
 #[test]
 fn names_the_first_fault(rt: HostRuntime) -> Result<(), Fail> {
+    let feed = small_city(rt.alloc())?;
     for (rows, want) in FAULTS {
-        assert_eq!(rt; said(rt.alloc(), rows)?.as_str(), want, "at {rows}");
+        assert_eq!(rt;
+            rows_said(rt.alloc(), &feed, rows)?.as_str(),
+            want,
+            "at {rows}"
+        );
     }
     Ok(())
 }
 
-// A sheet without the column value is refused at its first record.
+const SHEETS: [(&str, &str); 2] = [
+    ("", "no header: scenario 0  "),
+    (
+        "edit,target\nclose,B\n",
+        "missing column: scenario 1 value ",
+    ),
+];
+
 #[test]
-fn a_fault_of_the_sheet_is_one_of_the_scenario(rt: HostRuntime) -> Result<(), Fail> {
-    let Err(ScenarioFault::Row(fault)) = read_sheet(rt.alloc(), b"edit,target\n") else {
-        return Err(Fail::new("another answer"));
+fn a_scenario_has_three_columns(rt: HostRuntime) -> Result<(), Fail> {
+    let feed = small_city(rt.alloc())?;
+    for (text, want) in SHEETS {
+        assert_eq!(rt; said(rt.alloc(), &feed, text)?.as_str(), want);
+    }
+    Ok(())
+}
+
+#[test]
+fn the_plain_scenario_changes_nothing(rt: HostRuntime) -> Result<(), Fail> {
+    let feed = small_city(rt.alloc())?;
+    let Ok(scenario) = Scenario::plain(rt.alloc(), &feed) else {
+        return Err("refused".into());
     };
-    let RowFault::MissingColumn(place) = fault else {
-        return Err(Fail::new("another fault"));
-    };
-    assert_eq!(rt; place.file.as_str(), "scenario");
-    assert_eq!(rt; place.row, 1);
-    assert_eq!(rt; place.column.as_str(), "value");
+    let shown = shown(rt.alloc(), &feed, &scenario)?;
+    assert_eq!(rt; shown.as_str(), "50 100/999 1 1/999 1 1/...");
     Ok(())
 }
 
 #[test]
 fn a_stored_function_answers_the_ticks(rt: HostRuntime) -> Result<(), Fail> {
-    let Ok(scenario) = read(rt.alloc(), "fare,R2,100\ntransfer,,30\n") else {
-        return Err(Fail::new("refused"));
+    let feed = small_city(rt.alloc())?;
+    let text = "edit,target,value\nfare,R2,100\ntransfer,,30\n";
+    let Ok(scenario) = Scenario::read(rt.alloc(), text.as_bytes(), &feed) else {
+        return Err("refused".into());
     };
-    if scenario.scales.len() != 2 {
-        return Err(Fail::new("another number of routes"));
+    if feed.routes().len() != 2 {
+        return Err("another number of routes".into());
     }
     let fare = TimeFare::new(
         &scenario,
