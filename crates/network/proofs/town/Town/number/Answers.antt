@@ -1,0 +1,7 @@
+use Rattle.std.proofs.Common.{arith}
+use Rattle.network.proofs.TownLemmas.{number-room}
+use Rattle.network.proofs.town.Town.number.Goals as goal
+
+pub overflow_cast-result : goal.overflow_cast-result
+overflow_cast-result c =
+    omega (arith, number-room c.args.self.now c.args.node c.requires.node)

@@ -1,0 +1,17 @@
+pub mod Adding
+pub mod ArcParts
+pub mod Arcs
+pub mod Boardings
+pub mod Built
+pub mod Cities
+pub mod Conditions
+pub mod Faults
+pub mod Groups
+pub mod Kept
+pub mod Nodes
+pub mod Parts
+pub mod Sources
+pub mod Stations
+pub mod StopWalks
+pub mod Towns
+pub mod Ways
