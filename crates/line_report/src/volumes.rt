@@ -1,0 +1,55 @@
+//! Sums of volumes by what arcs stand for.
+
+ghost use Rattle.std.specs.Prelude.{◌≡◌, ◌≤◌, Bool, length, if◌then◌else◌};
+ghost use Rattle.line_report.specs.Volumes as words;
+ghost use Rattle.line_report.specs.Volumes.{volume_where};
+
+use network::{ArcKind, CityNet};
+
+/// The units that board, for the first time or later.
+#[tactic(auto, using(definitions::proofs::Sums::sum_more))]
+pub(crate) fn boardings(city: &CityNet, volumes: &[u64]) -> u128
+    requires volumes { length volumes.now ≡ length city.now.net.arcs }
+    ensures value { result ≡ volume_where city.now words.is_boarding volumes.now }
+{
+    let mut total = 0u128;
+    for arc in 0..city.net().arcs() {
+        total += volume_if(boards(city.arc_kind(arc)), volumes[arc as usize]);
+    }
+    total
+}
+
+/// The units that board after another line.
+#[tactic(auto, using(definitions::proofs::Sums::sum_more))]
+pub(crate) fn transfers(city: &CityNet, volumes: &[u64]) -> u128
+    requires volumes { length volumes.now ≡ length city.now.net.arcs }
+    ensures value { result ≡ volume_where city.now words.is_transfer volumes.now }
+{
+    let mut total = 0u128;
+    for arc in 0..city.net().arcs() {
+        total += volume_if(changes(city.arc_kind(arc)), volumes[arc as usize]);
+    }
+    total
+}
+
+// Whether an arc is a boarding.
+fn boards(kind: ArcKind) -> bool
+    ensures value { result ≡ words.is_boarding kind }
+{
+    matches!(kind, ArcKind::BoardFirst | ArcKind::BoardLater)
+}
+
+// Whether an arc is a boarding after another one.
+fn changes(kind: ArcKind) -> bool
+    ensures value { result ≡ words.is_transfer kind }
+{
+    matches!(kind, ArcKind::BoardLater)
+}
+
+// A volume, where it counts.
+fn volume_if(counts: bool, volume: u64) -> u128
+    ensures value { result ≡ if counts then volume else 0 }
+    ensures within { result ≤ 18446744073709551615 }
+{
+    if counts { u128::from(volume) } else { 0 }
+}
