@@ -1,0 +1,9 @@
+pub mod Assignments
+pub mod Bounds
+pub mod Conditions
+pub mod Partway
+pub mod Reached
+pub mod Rooms
+pub mod Spans
+pub mod Sums
+pub mod Visits

@@ -1,0 +1,38 @@
+//! Who is shown each destination.
+
+ghost use Rattle.std.specs.Prelude.{◌≡◌, ◌≤◌, ◌∷◌, [], List, Option, OnErr, OnOk};
+ghost use Rattle.definitions.specs.Causes.{Rose};
+ghost use Rattle.definitions.specs.Gap.{IsLoaded};
+ghost use Rattle.definitions.specs.Labels.{IsOrder};
+ghost use Rattle.definitions.specs.Reach.{IsReach};
+ghost use Rattle.assign.specs.Visits.{AreShown, Visit, visit_of};
+
+use desk_io::{Counted, Failed};
+use label_setting::Workspace;
+use loading::Loads;
+use lp_model::Network;
+
+/// Is shown each destination with demand once, with what was found for it.
+pub trait Visitor: Counted {
+    /// The visits so far, where they are told.
+    ghost visits: { Self → Option (List Visit) };
+
+    /// Takes a destination: its node, the demand at each node in units, its labels, and the volumes
+    /// and waits of the demand. A failed visit is not told.
+    fn visit(
+        &mut self,
+        net: &Network,
+        dest: u32,
+        g: &[u64],
+        ws: &Workspace,
+        loads: &Loads,
+    ) -> Result<(), Failed>
+        requires reach { IsReach net.now dest ws.now.reached }
+        requires order { IsOrder ws.now.reached ws.now.labels ws.now.order }
+        requires loaded { IsLoaded net.now dest ws.now.reached ws.now.labels g.now loads.now.volumes loads.now.waits }
+        ensures ok { OnOk result (AreShown (visits self.old) (visits self.new)
+            (visit_of dest g.now ws.now.labels loads.now.volumes loads.now.waits ∷ [])) }
+        ensures err { OnErr result (visits self.new ≡ visits self.old) }
+        ensures visitor_cause { OnErr result (Rose (Self.count self.old) (Self.count self.new)) }
+        ensures count { Self.count self.old ≤ Self.count self.new };
+}
