@@ -1,13 +1,13 @@
 -- Amounts and pairs in order.
-use Rattle.std.proofs.Common.{◌≡◌, ℕ, ◌+◌, ◌*◌, ◌<◌, ◌≤◌, ◌⊎◌, Bool, true, false, List, [], ◌∷◌, length, get_or, refl, sym, ap, ◌∙◌, inl, inr, arith, suc}
+use Rattle.std.proofs.Common.{◌≡◌, ℕ, ◌+◌, ◌*◌, ◌<◌, ◌≤◌, ◌⊎◌, Bool, true, false, List, [], ◌∷◌, length, get_or, refl, sym, ap, ◌∙◌, inl, inr, arith, zero, suc}
 use Rattle.std.specs.Prelude.{fold, All, ◌==◌, ◌&&◌}
 use Rattle.std.specs.List.{AllByRecursion}
 use Rattle.std.specs.List.Sorted.{IsNonDecreasingBy}
 use Rattle.std.proofs.lemmas.Bool.{cases_Bool, cases_lt, eq-eqb}
-use Rattle.std.proofs.lemmas.List.Elements.{All-head, All-tail, recursion_from_All}
+use Rattle.std.proofs.lemmas.List.Elements.{All-from_recursion, All-head, All-tail, recursion_from_All}
 use Rattle.demand.specs.declared.tables.Pair.{Pair}
 use Rattle.demand.specs.Joined.{Climbs, IsFrom, Rises, joined, place, with_more}
-use Rattle.demand.specs.Laws.{IsPairAmong}
+use Rattle.demand.specs.Laws.{AreInOrder, IsBefore, IsPairAmong}
 use Rattle.demand.specs.Pairs.{is_of}
 
 -- what follows of each, and what both say
@@ -94,3 +94,17 @@ climbs-sorted (t ∷ ts) small up =
 pub rises-none : Rises []
 unfolding Rises
 rises-none = tt
+
+before-from : (p q : Pair) → IsFrom p.destination (p.origin + 1) q → IsBefore p q
+before-from p q (inl h) = inl h
+before-from p q (inr h) = inr (h.0, omega (arith, h.1))
+
+-- pairs that rise stand in order
+pub order-rises : (ps : List Pair) → Rises ps → AreInOrder ps
+unfolding Rises
+order-rises [] rises place later d lt inside = absurd (omega (arith, inside))
+order-rises (p ∷ ps) rises place zero d lt inside = absurd (omega (arith, lt))
+order-rises (p ∷ ps) rises zero (suc later) d lt inside =
+    let all : All (IsFrom p.destination (p.origin + 1)) ps = All-from_recursion (IsFrom p.destination (p.origin + 1)) ps rises.0 in
+    before-from p (get_or ps later d) (all later d (omega (arith, inside)))
+order-rises (p ∷ ps) rises (suc place) (suc later) d lt inside = order-rises ps rises.1 place later d (omega (arith, lt)) (omega (arith, inside))

@@ -9,12 +9,29 @@ use Rattle.std.proofs.lemmas.List.Elements.{All-from_recursion, recursion_from_A
 use Rattle.std.proofs.lemmas.List.Sorted.{All-permutation, sum_by-IsPermutation}
 use Rattle.std.proofs.lemmas.List.Sums.{fold_more, sum_by-take-le, sum_by_more}
 use Rattle.demand.specs.declared.tables.Pair.{Pair}
-use Rattle.demand.specs.Joined.{IsFrom, joined, place, with_more}
-use Rattle.demand.specs.Laws.{IsPairAmong}
+use Rattle.demand.specs.Joined.{IsFrom, Rises, joined, place, with_more}
+use Rattle.demand.specs.Laws.{AreInOrder, IsPairAmong}
 use Rattle.demand.specs.Pairs.{is_of, pairs_of, units_from_to}
-use Rattle.demand.proofs.OrderLemmas.{all-weaker, among-folded, climbs-sorted, rises-folded, rises-none}
+use Rattle.demand.proofs.OrderLemmas.{all-weaker, among-folded, climbs-sorted, order-rises, rises-folded, rises-none}
 use Rattle.demand.proofs.PairLemmas.{pairs-are}
 use Rattle.demand.proofs.UnitLemmas.{total, total-folded, units-folded, units-moved}
+
+-- sorted amounts, added up, rise
+rises-sorted : (sorted : List Pair) → AllByRecursion (λ (t : Pair). t.origin < 4096) sorted → IsNonDecreasingBy place sorted → Rises (fold joined [] sorted)
+rises-sorted sorted small up =
+    let none = all-weaker (λ (t : Pair). t.origin < 4096) (λ (t : Pair). AllByRecursion (λ (p : Pair). IsFrom p.destination p.origin t) []) (λ t h. tt) sorted small in
+    rises-folded sorted [] (climbs-sorted sorted small up) rises-none none
+
+-- sorted amounts, added up, stand in order
+pub order-sorted : (amounts sorted pairs : List Pair) → All (λ (t : Pair). t.origin < 4096) amounts → IsPermutation amounts sorted → IsNonDecreasingBy place sorted
+    → pairs ≡ fold joined [] sorted → AreInOrder pairs
+order-sorted amounts sorted pairs all moved up is =
+    let small = recursion_from_All (λ (t : Pair). t.origin < 4096) sorted (All-permutation (λ (t : Pair). t.origin < 4096) amounts sorted moved all) in
+    rw is (order-rises (fold joined [] sorted) (rises-sorted sorted small up))
+
+-- amounts of so few zones have origins within the limit
+pub origins-few : (zones : ℕ) (amounts : List Pair) → zones ≤ 4096 → All (IsPairAmong zones) amounts → All (λ (t : Pair). t.origin < 4096) amounts
+origins-few zones amounts few all = λ k d lt. let here = all k d lt in let low = here.origin in omega (arith, low, few)
 
 units-whole : (amounts sorted : List Pair) (o d : ℕ) → IsPermutation amounts sorted → units_from_to amounts o d ≡ units_from_to (fold joined [] sorted) o d
 units-whole amounts sorted o d moved =
@@ -28,9 +45,7 @@ pub pairs-sorted : (zones : ℕ) (amounts sorted pairs : List Pair) → zones �
 pairs-sorted zones amounts sorted pairs few all moved up is =
     let among = recursion_from_All (IsPairAmong zones) sorted (All-permutation (IsPairAmong zones) amounts sorted moved all) in
     let small = all-weaker (IsPairAmong zones) (λ (t : Pair). t.origin < 4096) (λ t h. let low = h.origin in omega (arith, low, few)) sorted among in
-    let climbs = climbs-sorted sorted small up in
-    let none = all-weaker (IsPairAmong zones) (λ (t : Pair). AllByRecursion (λ (p : Pair). IsFrom p.destination p.origin t) []) (λ t h. tt) sorted among in
-    let rises = rises-folded sorted [] climbs rises-none none in
+    let rises = rises-sorted sorted small up in
     let units : (o d : ℕ) → units_from_to amounts o d ≡ units_from_to (fold joined [] sorted) o d = λ o d. units-whole amounts sorted o d moved in
     is ∙ pairs-are zones amounts (fold joined [] sorted) rises (among-folded zones sorted [] among tt) units
 

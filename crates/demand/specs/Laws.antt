@@ -1,5 +1,6 @@
 -- What holds of the parts of a table: their numbers name zones and stops. Here: docs/FORMATS.md.
-use Rattle.std.specs.Prelude.{◌≢◌, ◌<◌, ℕ}
+use Rattle.std.specs.Prelude.{◌≡◌, ◌≢◌, ◌<◌, ◌≤◌, ◌⊎◌, ℕ, List, length, slice_index_or, sum_by}
+use Rattle.definitions.specs.declared.limits.TheConstants.{UNIT_LIMIT}
 use Rattle.demand.specs.declared.tables.Pair.{Pair}
 use Rattle.demand.specs.declared.tables.WalkRow.{WalkRow}
 use Rattle.demand.specs.declared.tables.ZoneLink.{ZoneLink}
@@ -20,3 +21,17 @@ pub record IsPairAmong (zones : ℕ) (pair : Pair) : Type 0 where
   pub destination : pair.destination < zones
   pub apart : pair.origin ≢ pair.destination
   pub some : 0 < pair.units
+
+-- a pair stands before another: by destination, and then by origin
+abbrev pub IsBefore : Pair → Pair → Type 0
+IsBefore pair next = (pair.destination < next.destination) ⊎ ((pair.destination ≡ next.destination) × (pair.origin < next.origin))
+
+-- pairs stand by destination and then by origin, no two of the same zones
+abbrev pub AreInOrder : List Pair → Type 0
+AreInOrder pairs = (place later : ℕ) (d : Pair) → place < later → later < length pairs → IsBefore (slice_index_or pairs place d) (slice_index_or pairs later d)
+
+-- pairs in order have these units, no more than there may be
+pub record IsDemand (pairs : List Pair) (units : ℕ) : Type 0 where
+  pub ordered : AreInOrder pairs
+  pub total : sum_by (λ pair. pair.units) pairs ≡ units
+  pub within : units ≤ UNIT_LIMIT

@@ -1,13 +1,13 @@
 //! The demand between zones.
 
-ghost use Rattle.std.specs.Prelude.{◌≡◌, ◌≤◌, ℕ, List, [], All, IfErr, IfOk, OnOk, length, sum_by};
+ghost use Rattle.std.specs.Prelude.{◌≡◌, ◌<◌, ◌≤◌, ℕ, List, [], All, IfErr, IfOk, OnOk, length, sum_by};
 ghost use Rattle.feed_reader.specs.Faults.{Fields};
 ghost use Rattle.gtfs_rows.specs.Sheets.{sheet_of};
 ghost use Rattle.demand.specs.Amounts.{AreAmounts, AreSound};
 ghost use Rattle.demand.specs.Columns.{demand_columns, demand_file};
 ghost use Rattle.demand.specs.Demands.{demand_faults, demand_of};
 ghost use Rattle.demand.specs.Faults.{IsFirstFault, table_faults};
-ghost use Rattle.demand.specs.Laws.{IsPairAmong};
+ghost use Rattle.demand.specs.Laws.{AreInOrder, IsPairAmong};
 
 use crate::amounts::{Amounts, read_amounts};
 use crate::columns::demand_columns;
@@ -31,15 +31,14 @@ pub struct Demand {
 }
 
 impl Model for Demand {
-    ghost use Rattle.std.specs.Prelude.{◌≡◌, ◌≤◌, sum_by};
-    ghost use Rattle.definitions.specs.declared.limits.TheConstants.{UNIT_LIMIT};
     ghost use Rattle.demand.specs.Demands.{DemandData};
+    ghost use Rattle.demand.specs.Laws.{IsDemand};
 
     ghost Value = { DemandData };
 
     ghost view = { λ d. record { pairs = d.pairs.items; units = d.units; inside = d.inside; dropped = d.dropped } };
 
-    ghost invariant = { λ d. (d.units ≤ UNIT_LIMIT) × (sum_by (λ pair. pair.units) d.pairs.items ≡ d.units) };
+    ghost invariant = { λ d. IsDemand d.pairs.items d.units };
 }
 
 impl Demand {
@@ -74,6 +73,7 @@ impl Demand {
 
     // The demand of the amounts of the rows.
     fn of_amounts(alloc: Global, amounts: Amounts) -> Result<Demand, NoMemory>
+        requires origins { All (λ pair. pair.origin < ZONE_LIMIT) amounts.list.items }
         requires units { amounts.units ≤ UNIT_LIMIT }
         requires total { sum_by (λ pair. pair.units) amounts.list.items ≡ amounts.units }
         ensures demand { IfOk result (λ demand. (zones : List (List ℕ)) (rows : List Fields)
@@ -94,6 +94,7 @@ impl Demand {
     /// The pairs with units, by destination and then by origin.
     pub fn pairs(&self) -> &[Pair]
         ensures value { result.now ≡ self.now.pairs }
+        ensures ordered { AreInOrder result.now }
         ensures total { sum_by (λ pair. pair.units) result.now ≡ self.now.units }
     {
         &self.pairs

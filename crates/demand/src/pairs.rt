@@ -3,7 +3,7 @@
 ghost use Rattle.std.specs.Prelude.{◌≡◌, ◌<◌, ◌≤◌, ◌+◌, ◌*◌, ◌^◌, ℕ, [], All, IfOk, OnOk, sum_by};
 ghost use Rattle.std.specs.List.{fold};
 ghost use Rattle.demand.specs.Joined.{joined, place};
-ghost use Rattle.demand.specs.Laws.{IsPairAmong};
+ghost use Rattle.demand.specs.Laws.{AreInOrder, IsPairAmong};
 ghost use Rattle.demand.specs.Pairs.{is_of, pairs_of};
 
 use crate::limits::ZONE_LIMIT;
@@ -21,6 +21,8 @@ pub fn pairs_of(alloc: Global, mut amounts: Vec<Pair>) -> Result<Vec<Pair>, NoMe
         ≡ sum_by (λ amount. amount.units) amounts.items) }
     ensures among { IfOk result (λ pairs. (zones : ℕ)
         → All (IsPairAmong zones) amounts.items → All (IsPairAmong zones) pairs.items) }
+    ensures ordered { IfOk result (λ pairs. All (λ amount. amount.origin < ZONE_LIMIT) amounts.items
+        → AreInOrder pairs.items) }
 {
     amounts.sort_unstable_by_key(|amount| place(amount));
     let pairs = joined_of(alloc, amounts.as_slice())?;

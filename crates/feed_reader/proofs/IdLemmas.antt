@@ -1,5 +1,5 @@
 -- The number of an id, after one more.
-use Rattle.std.proofs.Common.{◌≡◌, ℕ, ◌+◌, ◌<◌, Bool, true, false, List, [], ◌∷◌, ◌++◌, ◌⊎◌, Option, Some, None, length, refl, sym, ap, ◌∙◌, inl, inr, arith, cond, IfSome}
+use Rattle.std.proofs.Common.{◌≡◌, ℕ, ◌+◌, ◌<◌, Bool, true, false, List, [], ◌∷◌, ◌++◌, ◌⊎◌, Option, Some, None, length, refl, sym, ap, ◌∙◌, inl, inr, arith, cond, IfSome, slice_get, zero, suc}
 use Rattle.std.specs.Prelude.{String}
 use Rattle.std.specs.List.{position_from}
 use Rattle.std.specs.Str.{bytes_eq}
@@ -21,7 +21,7 @@ position-push t (y ∷ xs) x s n e = elim (cases_Bool (t y)) [
   | inr h ↦ let later = position-push t xs x (s + 1) n (omega arith) in rw h later
 ]
 
-same-bytes : (xs ys : List ℕ) → bytes_eq xs ys ≡ true → xs ≡ ys
+pub same-bytes : (xs ys : List ℕ) → bytes_eq xs ys ≡ true → xs ≡ ys
 same-bytes xs ys h = (bytes_eq-Decides xs ys).0 h
 
 swap-bytes : (xs ys : List ℕ) → bytes_eq xs ys ≡ bytes_eq ys xs
@@ -50,12 +50,38 @@ number-push ids id other none = elim (cases_Bool (bytes_eq id other)) [
 ]
 
 pub numbered-none : (m : BTreeMap (String Global) ℕ) → IsEmpty m → IsNumbered [] m
-numbered-none m e = record { each = λ id. rw e refl; few = omega arith }
+numbered-none m e = record { each = λ id. rw e refl; once = λ number id there. absurd (cc there); few = omega arith }
+
+-- what stands at a place of ids with one more
+get-push : (ids : List (List ℕ)) (id : List ℕ) (number : ℕ) (other : List ℕ) → slice_get (ids ++ id ∷ []) number ≡ Some other
+    → (slice_get ids number ≡ Some other) ⊎ ((number ≡ length ids) × (other ≡ id))
+get-push [] id zero other there = inr (refl, cc there)
+get-push [] id (suc number) other there = absurd (cc there)
+get-push (x ∷ ids) id zero other there = inl there
+get-push (x ∷ ids) id (suc number) other there = elim (get-push ids id number other there) [
+  | inl before ↦ inl before
+  | inr last ↦ inr (ap suc last.0, last.1)
+]
+
+-- no id stands twice where the last is new
+once-push : (ids : List (List ℕ)) (id : List ℕ) → number_of ids id ≡ None
+    → ((number : ℕ) (other : List ℕ) → slice_get ids number ≡ Some other → number_of ids other ≡ Some number)
+    → (number : ℕ) (other : List ℕ) → slice_get (ids ++ id ∷ []) number ≡ Some other → number_of (ids ++ id ∷ []) other ≡ Some number
+once-push ids id none once number other there = elim (get-push ids id number other there) [
+  | inl before ↦ elim (cases_Bool (bytes_eq id other)) [
+    | inl h ↦ let same = same-bytes id other h in absurd (cc (same, none, once number other before))
+    | inr h ↦ number-push ids id other none ∙ rw h (once number other before)
+  ]
+  | inr last ↦
+      let same : bytes_eq id other ≡ true = sym (sym ((bytes_eq-Decides id other).1 (sym last.1))) in
+      number-push ids id other none ∙ rw same (ap Some (sym last.0))
+]
 
 pub numbered-push : (ids : List (List ℕ)) (id : List ℕ) (m n : BTreeMap (String Global) ℕ) → IsNumbered ids m → number_of ids id ≡ None → length ids < 4294967295
     → ((other : List ℕ) → get_by_text n other ≡ update bytes_eq (get_by_text m) id (Some (length ids)) other) → IsNumbered (ids ++ id ∷ []) n
 numbered-push ids id m n h none room put = record {
   each = λ other. put other ∙ ap (cond (bytes_eq id other) (Some (length ids))) (h.each other) ∙ sym (number-push ids id other none);
+  once = once-push ids id none h.once;
   few = omega (arith, length-append ids (id ∷ []));
 }
 

@@ -1,9 +1,10 @@
 //! Ids that are numbered in the order in which they come.
 
-ghost use Rattle.std.specs.Prelude.{◌≡◌, ◌<◌, ◌^◌, ◌++◌, ◌∷◌, [], None, OnOk, OnErr, IfSome, length};
+ghost use Rattle.std.specs.Prelude.{◌≡◌, ◌<◌, ◌^◌, ◌++◌, ◌∷◌, [], Some, None, OnOk, OnErr, IfSome, length};
 ghost use Rattle.feed_reader.specs.Ids.{number_of};
 ghost use Rattle.feed_reader.specs.Numbered.{IsNumbered, noted};
 
+use crate::guesses::Guesses;
 use gtfs_rows::{Name, NoMemory};
 use std::alloc::Global;
 use std::collections::BTreeMap;
@@ -14,6 +15,7 @@ use std::marker::Model;
 pub struct Ids {
     names: Vec<Name>,
     numbers: BTreeMap<String, u32>,
+    guesses: Guesses,
     alloc: Global,
 }
 
@@ -36,6 +38,7 @@ impl Ids {
         Ids {
             names: Vec::new(alloc),
             numbers: BTreeMap::new(alloc),
+            guesses: Guesses::new(alloc),
             alloc,
         }
     }
@@ -68,7 +71,23 @@ impl Ids {
         ensures value { result ≡ number_of self.now id.now }
         ensures within { IfSome result (λ number. number < length self.now) }
     {
-        self.numbers.get(id).copied()
+        match self.guessed(id) {
+            Some(number) => Some(number),
+            None => self.numbers.get(id).copied(),
+        }
+    }
+
+    // The number of an id, where it is guessed right.
+    fn guessed(&self, id: &str) -> Option<u32>
+        ensures right { IfSome result (λ number. number_of self.now id.now ≡ Some number) }
+    {
+        let guess = self.guesses.of(id)?;
+        let name = self.names.as_slice().get(guess as usize)?;
+        if name.as_str() == id {
+            Some(guess)
+        } else {
+            None
+        }
     }
 
     /// Appends an id that is not there.
@@ -81,6 +100,7 @@ impl Ids {
         if number >= 4_294_967_295 {
             return Err(NoMemory);
         }
+        self.guesses.note(self.names.as_slice(), id)?;
         let name = String::from_str(self.alloc, id)?;
         let key = String::from_str(self.alloc, id)?;
         self.names.push(Name::new(name))?;

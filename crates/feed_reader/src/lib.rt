@@ -19,6 +19,7 @@ mod fetch_fault;
 mod fetching;
 mod files;
 mod frequencies;
+mod guesses;
 mod ids;
 mod kept;
 mod order;

@@ -6,6 +6,7 @@ use Rattle.demand.specs.Columns.{demand_columns, demand_file}
 use Rattle.demand.specs.Demands.{demand_faults}
 use Rattle.demand.specs.Laws.{IsPairAmong}
 use Rattle.demand.proofs.TableLemmas.{demand-read, same-table, table-rows-refused, table-sheet-refused}
+use Rattle.demand.proofs.SortLemmas.{origins-few}
 use Rattle.demand.proofs.demand.Demand.read.Goals as goal
 
 pub returns-in_err-sheet-clause-refused : goal.returns-in_err-sheet-clause-refused
@@ -30,3 +31,6 @@ returns-clause-demand c = demand-read c.args.zones.now.names c.ids.result.now c.
 pub returns-clause-numbers : goal.returns-clause-numbers
 returns-clause-numbers c = c.in_ok-demand.ensures.among (length c.args.zones.now.names)
     (subst (λ (ids : List (List ℕ)). All (IsPairAmong (length ids)) c.in_ok-amounts.amounts.list.items) c.ids.ensures.value c.in_ok-amounts.ensures.sound.among)
+
+pub of_amounts-requires-clause-origins : goal.of_amounts-requires-clause-origins
+of_amounts-requires-clause-origins c = origins-few (length c.ids.result.now) c.in_ok-amounts.amounts.list.items c.ids.ensures.few c.in_ok-amounts.ensures.sound.among
