@@ -42,7 +42,7 @@ among-stations : (feed : FeedData) (m a : ℕ) → a + m ≤ length feed.stops �
 among-stations feed zero a le = All-nil (IsWayAmong (length feed.stops))
 among-stations feed (suc m) a le =
     All-append (IsWayAmong (length feed.stops)) (station_ways feed a) (flat_map (station_ways feed) (range_with_len (a + 1) m))
-    (among-to (length feed.stops) a (ruling.Given 120) (neighbours feed a) (omega arith) (kept-below (share_station feed a) (length feed.stops)))
+    (among-to (length feed.stops) a (ruling.Allowed 120) (neighbours feed a) (omega arith) (kept-below (share_station feed a) (length feed.stops)))
     (among-stations feed m (a + 1) (omega arith))
 
 -- all ways lead between stops of the feed

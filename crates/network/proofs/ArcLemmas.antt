@@ -15,8 +15,9 @@ use Rattle.network.specs.Arcs.{CityArc, alight_arcs, alights_at, arcs_from, boar
 use Rattle.network.specs.Conditions.{AreSources}
 use Rattle.network.specs.Nodes.{number_of, places_left}
 use Rattle.network.specs.Sources.{Sources, kept_count, kept_line, kept_numbers, kept_weight, no_line, weight_in, zone_count}
+use Rattle.network.specs.Towns.{HasNode, HasReach, HasSegment}
 use Rattle.network.proofs.KeyedLemmas.{all_flat}
-use Rattle.network.proofs.NodeLemmas.{IsNode, ways}
+use Rattle.network.proofs.NodeLemmas.{segments}
 use Rattle.scenarios.specs.declared.layer.Layer.{Layer}
 use Rattle.scenarios.specs.declared.layer.Layer.TheVariants as layer
 use Rattle.scenarios.specs.Scenarios.{is_closed}
@@ -45,11 +46,18 @@ kept_there sources kept ok light lt =
       light = light kept 0 lt;
     }
 
-boarding_fits : (sources : Sources) (l : Layer) (stop kept place : ℕ) → IsKept sources kept → kept < kept_count sources → place < ways sources kept →
+-- the two nodes of a segment
+segment_there : (sources : Sources) (kept place : ℕ) → kept < kept_count sources → place < segments sources kept → HasSegment sources kept place
+segment_there sources kept place lt on = record { kept = lt; next = omega arith }
+
+reach_there : (sources : Sources) (kept place : ℕ) → kept < kept_count sources → place < segments sources kept → HasReach sources kept (place + 1)
+reach_there sources kept place lt on = record { kept = lt; later = omega arith; within = omega arith }
+
+boarding_fits : (sources : Sources) (l : Layer) (stop kept place : ℕ) → IsKept sources kept → kept < kept_count sources → place < segments sources kept →
     IsArcFrom sources (number_of sources (node_in l stop)) (board_arc sources l stop kept place)
 boarding_fits sources l stop kept place line lt on = record {
   tail = refl;
-  head = number_within sources (node.Leave kept place) (lt, on);
+  head = number_within sources (node.Leave kept place) (segment_there sources kept place lt on);
   cost = omega arith;
   weight = λ boards. line.weight;
   light = line.light;
@@ -60,7 +68,7 @@ boardings_fit : (sources : Sources) (l : Layer) (stop kept : ℕ) → IsKept sou
 boardings_fit sources l stop kept line lt =
     All-map (IsArcFrom sources (number_of sources (node_in l stop))) (board_arc sources l stop kept) (filter (boards_at sources stop kept) (places_left sources kept))
     (λ k d on.
-    let within = (filter_keeps (boards_at sources stop kept) 0 (ways sources kept) k d on).0 in
+    let within = (filter_keeps (boards_at sources stop kept) 0 (segments sources kept) k d on).0 in
     boarding_fits sources l stop kept (get_or (filter (boards_at sources stop kept) (places_left sources kept)) k d) line lt (omega arith))
 
 boards_fit : (sources : Sources) (l : Layer) (stop : ℕ) → AreSources sources → AreLight sources → All (IsArcFrom sources (number_of sources (node_in l stop))) (board_arcs sources l stop)
@@ -79,18 +87,19 @@ stops_fit sources l stop ok light =
     (All-append (IsArcFrom sources (number_of sources (node_in l stop))) (egress_arcs sources l stop) (walk_arcs sources l stop) (egress_fits sources l stop ok) (walks_fit sources l stop))
     (boards_fit sources l stop ok light)
 
-one_fits : (P : CityArc → Type 0) (found : CityArc) → P found → All P (found ∷ [])
+-- what holds of an arc holds of it alone
+pub one_fits : (P : CityArc → Type 0) (found : CityArc) → P found → All P (found ∷ [])
 one_fits P found h = All-cons P found [] h (All-nil P)
 
-ride_fits : (sources : Sources) (kept place : ℕ) → IsKept sources kept → kept < kept_count sources → place < ways sources kept →
+ride_fits : (sources : Sources) (kept place : ℕ) → IsKept sources kept → kept < kept_count sources → place < segments sources kept →
     IsArcFrom sources (number_of sources (node.Leave kept place)) (ride_arc sources kept place)
 ride_fits sources kept place line lt on =
     let rides = line.line.ride_per_pair in
     let some = (line.line.rides place 0 (omega arith)).0 in
     free_fits sources arc.Ride (node.Leave kept place) (node.Reach kept (place + 1)) (slice_index (kept_line sources kept).rides place)
-    (lt, (omega arith, omega arith)) (omega arith)
+    (reach_there sources kept place lt on) (omega arith)
 
-dwells_fit : (sources : Sources) (kept place : ℕ) → IsKept sources kept → kept < kept_count sources → 0 < place → place ≤ ways sources kept →
+dwells_fit : (sources : Sources) (kept place : ℕ) → IsKept sources kept → kept < kept_count sources → 0 < place → place ≤ segments sources kept →
     All (IsArcFrom sources (number_of sources (node.Reach kept place))) (dwell_arcs sources kept place)
 dwells_fit sources kept place line lt some most =
     where_true (IsArcFrom sources (number_of sources (node.Reach kept place))) (nat_lt (place + 1) (length (kept_line sources kept).places))
@@ -101,9 +110,10 @@ dwells_fit sources kept place line lt some most =
     let cost = (line.line.dwells (place - 1) 0 (omega arith)).0 in
     one_fits (IsArcFrom sources (number_of sources (node.Reach kept place)))
     (free_arc sources arc.Dwell (node.Reach kept place) (node.Leave kept place) (slice_index (kept_line sources kept).dwells (place - 1)))
-    (free_fits sources arc.Dwell (node.Reach kept place) (node.Leave kept place) (slice_index (kept_line sources kept).dwells (place - 1)) (lt, omega arith) (omega arith)))
+    (free_fits sources arc.Dwell (node.Reach kept place) (node.Leave kept place) (slice_index (kept_line sources kept).dwells (place - 1))
+    (segment_there sources kept place lt (omega arith)) (omega arith)))
 
-alights_fit : (sources : Sources) (kept place : ℕ) → IsKept sources kept → place ≤ ways sources kept →
+alights_fit : (sources : Sources) (kept place : ℕ) → IsKept sources kept → place ≤ segments sources kept →
     All (IsArcFrom sources (number_of sources (node.Reach kept place))) (alight_arcs sources kept place)
 alights_fit sources kept place line most =
     let two = line.line.two in
@@ -115,14 +125,17 @@ alights_fit sources kept place line most =
 
 -- ---- all nodes
 
-pub arcs_fit : (sources : Sources) (kind : NodeKind) → AreSources sources → AreLight sources → IsNode sources kind → All (IsArcFrom sources (number_of sources kind)) (arcs_from sources kind)
+pub arcs_fit : (sources : Sources) (kind : NodeKind) → AreSources sources → AreLight sources → HasNode sources kind → All (IsArcFrom sources (number_of sources kind)) (arcs_from sources kind)
 arcs_fit sources (node.Origin zone) ok light h = access_fits sources zone ok
 arcs_fit sources (node.Goal zone) ok light h = All-nil (IsArcFrom sources (zone_count sources + zone))
 arcs_fit sources (node.First stop) ok light h = stops_fit sources layer.First stop ok light
 arcs_fit sources (node.Later stop) ok light h = stops_fit sources layer.Later stop ok light
 arcs_fit sources (node.Leave kept place) ok light h =
-    one_fits (IsArcFrom sources (number_of sources (node.Leave kept place))) (ride_arc sources kept place) (ride_fits sources kept place (kept_there sources kept ok light h.0) h.0 h.1)
+    let next = h.next in
+    one_fits (IsArcFrom sources (number_of sources (node.Leave kept place))) (ride_arc sources kept place)
+    (ride_fits sources kept place (kept_there sources kept ok light h.kept) h.kept (omega arith))
 arcs_fit sources (node.Reach kept place) ok light h =
+    let within = h.within in
     All-append (IsArcFrom sources (number_of sources (node.Reach kept place))) (dwell_arcs sources kept place) (alight_arcs sources kept place)
-    (dwells_fit sources kept place (kept_there sources kept ok light h.0) h.0 h.1.0 h.1.1)
-    (alights_fit sources kept place (kept_there sources kept ok light h.0) h.1.1)
+    (dwells_fit sources kept place (kept_there sources kept ok light h.kept) h.kept h.later (omega arith))
+    (alights_fit sources kept place (kept_there sources kept ok light h.kept) (omega arith))

@@ -17,7 +17,7 @@ use Rattle.network.specs.Boardings.{boarding_at, boardings_in, fare_in, fares_at
 use Rattle.network.specs.Conditions.{AreSources}
 use Rattle.network.specs.Nodes.{number_of, places_left}
 use Rattle.network.specs.Sources.{Sources, kept_count, kept_line, kept_weight, stop_count}
-use Rattle.network.specs.Towns.{HasWay}
+use Rattle.network.specs.Towns.{HasSegment}
 use Rattle.network.proofs.ArcListLemmas.{filter-flat_map, filter-map, filter-none, filter-same, filter-twice, flat_map-none, flat_map-same, map-flat_map}
 use Rattle.network.proofs.PlaceLemmas.{all-at, all-flat_map, all-map, filter-below, range-below}
 use Rattle.network.proofs.TownLemmas.{line-law}
@@ -29,13 +29,13 @@ use Rattle.scenarios.specs.Scenarios.{is_closed, ticks_of}
 
 -- a boarding of a kept line at a place that the line leaves
 pub record IsBoardingOf (sources : Sources) (boarding : Boarding) : Type 0 where
-  pub way : HasWay sources boarding.line boarding.place
+  pub segment : HasSegment sources boarding.line boarding.place
   pub stop_is : boarding.stop ≡ (place_at sources boarding.line boarding.place).stop
 
 line-boardings : (sources : Sources) (line : ℕ) → line < 0 + kept_count sources → AllByRecursion (IsBoardingOf sources) (line_boardings sources line)
 line-boardings sources line lt =
     all-map (IsBoardingOf sources) (λ (place : ℕ). place < 0 + (length (kept_line sources line).places - 1)) (boarding_at sources line) (filter (is_boarded sources line) (places_left sources line))
-    (λ place below. record { way = record { kept = omega arith; next = omega arith }; stop_is = refl })
+    (λ place below. record { segment = record { kept = omega arith; next = omega arith }; stop_is = refl })
     (filter-below (is_boarded sources line) 0 (length (kept_line sources line).places - 1))
 
 pub boardings-law : (sources : Sources) → AllByRecursion (IsBoardingOf sources) (boardings_in sources)
@@ -43,14 +43,14 @@ unfolding boardings_in
 boardings-law sources =
     all-flat_map (IsBoardingOf sources) (λ (line : ℕ). line < 0 + kept_count sources) (line_boardings sources) (range_with_len 0 (kept_count sources)) (line-boardings sources) (range-below 0 (kept_count sources))
 
-pub boarding-way : (sources : Sources) (list : List Boarding) (place : ℕ) (d : Boarding) → list ≡ boardings_in sources → place < length (boardings_in sources) → HasWay sources (get_or list place d).line (get_or list place d).place
-boarding-way sources list place d are lt = rw are (all-at (IsBoardingOf sources) (boardings_in sources) place d (boardings-law sources) lt).way
+pub boarding-segment : (sources : Sources) (list : List Boarding) (place : ℕ) (d : Boarding) → list ≡ boardings_in sources → place < length (boardings_in sources) → HasSegment sources (get_or list place d).line (get_or list place d).place
+boarding-segment sources list place d are lt = rw are (all-at (IsBoardingOf sources) (boardings_in sources) place d (boardings-law sources) lt).segment
 
 stop-below : (sources : Sources) (boarding : Boarding) → AreSources sources → IsBoardingOf sources boarding → boarding.stop < stop_count sources
 stop-below sources boarding laws is =
-    let way = is.way in
-    let next : boarding.place + 1 < length (kept_line sources boarding.line).places = way.next in
-    let law = line-law sources boarding.line laws way.kept in
+    let segment = is.segment in
+    let next : boarding.place + 1 < length (kept_line sources boarding.line).places = segment.next in
+    let law = line-law sources boarding.line laws segment.kept in
     rw is.stop_is (law.stops boarding.place no_place (omega arith))
 
 stops-below : (sources : Sources) (list : List Boarding) → AreSources sources → AllByRecursion (IsBoardingOf sources) list → AllByRecursion (λ (boarding : Boarding). boarding.stop < stop_count sources) list

@@ -1,5 +1,5 @@
 -- The city of sources without a fault.
-use Rattle.std.proofs.Common.{◌≡◌, ℕ, ◌≤◌, List, [], ◌∷◌, ◌++◌, ◌⊎◌, Some, length, refl, sym, ap, subst, ◌∙◌, inl, inr, arith}
+use Rattle.std.proofs.Common.{◌≡◌, ℕ, ◌≤◌, List, [], ◌++◌, ◌⊎◌, Some, length, refl, sym, ap, subst, ◌∙◌, inl, inr, arith}
 use Rattle.std.specs.Prelude.{map, slice_get}
 use Rattle.std.proofs.lemmas.List.{append_assoc, length-map}
 use Rattle.definitions.specs.declared.limits.TheConstants.{K_LIMIT, NODE_LIMIT}
@@ -22,7 +22,8 @@ use Rattle.network.specs.Conditions.{AreSources}
 use Rattle.network.specs.Faults.{IsFirstFault, arc_faults, city_faults, cost_faults, node_faults, weight_faults}
 use Rattle.network.specs.Nodes.{kept_lines, nodes_of, number_of}
 use Rattle.network.specs.Sources.{Sources, zone_count}
-use Rattle.network.proofs.CountLemmas.{first_stays}
+use Rattle.network.proofs.BoardedLemmas.{boardings_have_weight}
+use Rattle.network.proofs.CountLemmas.{first_stays, no_first}
 use Rattle.network.proofs.FaultLemmas.{limit_kept, network_kept}
 use Rattle.network.proofs.NetworkLemmas.{network_rules, within_from}
 use Rattle.network.proofs.NodeLemmas.{node_count, node_stands}
@@ -55,10 +56,6 @@ few_nodes sources e = limit_kept limit.Nodes NODE_LIMIT (length (nodes_of source
 pub no_net_fault : (sources : Sources) (k : ℕ) → AreSources sources → city_faults sources ≡ [] → k ≤ K_LIMIT → network_faults (network_of sources k) ≡ []
 no_net_fault sources k ok none most = network_kept (network_of sources k) (network_rules sources k ok (within_from sources none) most)
 
-no_first : {A : Type 0} (xs : List A) (x : A) → xs ≡ [] → slice_get xs 0 ≡ Some x → ⊥
-no_first [] x none h = cc
-no_first (y ∷ xs) x none h = cc
-
 -- so its network is refused for want of memory alone
 pub only_memory : (sources : Sources) (nodes : ℕ) (arcs : List NetArc) (k : ℕ) (found : NetFault) → nodes ≡ length (nodes_of sources) →
     arcs ≡ map (λ (each : CityArc). each.arc) (arcs_of sources) → AreSources sources → city_faults sources ≡ [] → k ≤ K_LIMIT →
@@ -79,6 +76,7 @@ city_rules sources k =
       two_each = omega arith;
       origins = λ zone lt. node_stands sources (node.Origin zone) lt;
       goals = λ zone lt. node_stands sources (node.Goal zone) lt;
+      boardings = boardings_have_weight sources k;
     }
 
 -- and so does one of the same parts

@@ -2,15 +2,14 @@
 use Rattle.std.proofs.Common.{◌≡◌, ℕ, zero, suc, ◌+◌, ◌<◌, ◌≤◌, Bool, true, List, [], ◌∷◌, ◌++◌, Some, length, get_or, refl, ap, ◌∙◌, inl, inr, arith}
 use Rattle.std.specs.Prelude.{filter, flat_map, nat_lt, slice_get, slice_index_or, sum_by}
 use Rattle.std.specs.List.{range_with_len}
-use Rattle.std.proofs.lemmas.Bool.{cases_Bool, le-ltb, lt-ltb}
+use Rattle.std.proofs.lemmas.Bool.{cases_Bool, cases_lt, le-ltb, lt-ltb}
 use Rattle.std.proofs.lemmas.List.Sums.{sum_by-cons}
 use Rattle.definitions.proofs.Sums.{sum_by-filter, sum_more, range_same}
 use Rattle.definitions.specs.declared.limits.TheConstants.{WEIGHT_LIMIT}
 use Rattle.network.specs.declared.fault.BuildFault.{BuildFault}
-use Rattle.network.specs.declared.fault.BuildFault.TheVariants as fault
 use Rattle.network.specs.declared.fault.Limit.{Limit}
 use Rattle.network.specs.declared.fault.Limit.TheVariants as limit
-use Rattle.network.specs.Faults.{limit_faults, weight_faults}
+use Rattle.network.specs.Faults.{IsFirstFault, limit_faults, weight_faults}
 use Rattle.network.specs.Kept.{nodes_for, nodes_on, nodes_to}
 use Rattle.network.specs.Nodes.{line_nodes, nodes_before, nodes_of}
 use Rattle.network.specs.Sources.{Sources, kept_count, kept_numbers, weight_in}
@@ -21,8 +20,10 @@ use Rattle.network.proofs.NodeLemmas.{line_size, node_count}
 pub count_passes : (name : Limit) (most count : ℕ) → count ≤ most → limit_faults name most count ≡ []
 count_passes name most count le = rw (le-ltb most count le) refl
 
-pub count_fails : (name : Limit) (most count : ℕ) → most < count → slice_get (limit_faults name most count) 0 ≡ Some (fault.Range name count)
-count_fails name most count lt = rw (lt-ltb most count lt) refl
+-- where there is none, none is the first
+pub no_first : {A : Type 0} (xs : List A) (x : A) → xs ≡ [] → slice_get xs 0 ≡ Some x → ⊥
+no_first [] x none h = cc
+no_first (y ∷ xs) x none h = cc
 
 -- a first fault stays the first
 pub first_stays : (xs ys : List BuildFault) (one : BuildFault) → slice_get xs 0 ≡ Some one → slice_get (xs ++ ys) 0 ≡ Some one
@@ -65,15 +66,21 @@ weights_pass sources each =
     none_among (λ number. limit_faults limit.Weight WEIGHT_LIMIT (weight_in sources number)) (λ number. nat_lt 0 (weight_in sources number)) 0 (length sources.lines)
     (λ i lt. let z : 0 + i ≡ i = omega arith in rw z (count_passes limit.Weight WEIGHT_LIMIT (weight_in sources i) (each i lt)))
 
-pub weight_fails : (sources : Sources) (number : ℕ) → ((i : ℕ) → i < number → weight_in sources i ≤ WEIGHT_LIMIT) → number < length sources.lines →
-    WEIGHT_LIMIT < weight_in sources number → slice_get (weight_faults sources) 0 ≡ Some (fault.Range limit.Weight (weight_in sources number))
+-- the first line with a fault has the first of all
+pub weight_fails : (sources : Sources) (number : ℕ) (one : BuildFault) → ((i : ℕ) → i < number → weight_in sources i ≤ WEIGHT_LIMIT) → number < length sources.lines →
+    IsFirstFault (limit_faults limit.Weight WEIGHT_LIMIT (weight_in sources number)) one → IsFirstFault (weight_faults sources) one
 unfolding kept_numbers
-weight_fails sources number each lt past =
+weight_fails sources number one each lt (inl e) = inl e
+weight_fails sources number one each lt (inr e) =
     let z : 0 + number ≡ number = omega arith in
-    first_among (λ number. limit_faults limit.Weight WEIGHT_LIMIT (weight_in sources number)) (λ number. nat_lt 0 (weight_in sources number))
-    (fault.Range limit.Weight (weight_in sources number)) 0 number (length sources.lines)
-    (λ i before. let y : 0 + i ≡ i = omega arith in rw y (count_passes limit.Weight WEIGHT_LIMIT (weight_in sources i) (each i before)))
-    lt (rw z (lt-ltb 0 (weight_in sources number) (omega arith))) (rw z (count_fails limit.Weight WEIGHT_LIMIT (weight_in sources number) past))
+    elim (cases_lt WEIGHT_LIMIT (weight_in sources number)) [
+      | inl past ↦
+          inr
+          (first_among (λ number. limit_faults limit.Weight WEIGHT_LIMIT (weight_in sources number)) (λ number. nat_lt 0 (weight_in sources number)) one 0 number (length sources.lines)
+          (λ i before. let y : 0 + i ≡ i = omega arith in rw y (count_passes limit.Weight WEIGHT_LIMIT (weight_in sources i) (each i before)))
+          lt (rw z (lt-ltb 0 (weight_in sources number) (omega arith))) (rw z e))
+      | inr within ↦ absurd (no_first (limit_faults limit.Weight WEIGHT_LIMIT (weight_in sources number)) one (count_passes limit.Weight WEIGHT_LIMIT (weight_in sources number) (omega arith)) e)
+    ]
 
 -- ---- how many nodes there are
 

@@ -17,10 +17,10 @@ use Rattle.network.specs.Conditions.{AreSources}
 use Rattle.network.specs.Nodes.{nodes_of, number_of}
 use Rattle.network.specs.Sources.{Sources, stop_count, walk_ticks, zone_count}
 use Rattle.network.specs.StopWalks.{other_stops, walk_seconds, walk_to, walks_from}
+use Rattle.network.specs.Towns.{HasNode}
 use Rattle.network.proofs.KeyedLemmas.{all_flat}
-use Rattle.network.proofs.NodeLemmas.{IsNode, node_stands}
+use Rattle.network.proofs.NodeLemmas.{has_stop, node_stands}
 use Rattle.scenarios.specs.declared.layer.Layer.{Layer}
-use Rattle.scenarios.specs.declared.layer.Layer.TheVariants as layer
 
 -- an arc from a node, to another one, with a positive cost and a weight within its limit
 pub record IsArcFrom (sources : Sources) (from : ℕ) (found : CityArc) : Type 0 where
@@ -30,10 +30,10 @@ pub record IsArcFrom (sources : Sources) (from : ℕ) (found : CityArc) : Type 0
   pub weight : is_some found.arc.weight ≡ true → 0 < unwrap_or found.arc.weight 0
   pub light : unwrap_or found.arc.weight 0 ≤ WEIGHT_LIMIT
 
-pub number_within : (sources : Sources) (kind : NodeKind) → IsNode sources kind → number_of sources kind < length (nodes_of sources)
+pub number_within : (sources : Sources) (kind : NodeKind) → HasNode sources kind → number_of sources kind < length (nodes_of sources)
 number_within sources kind there = slice_get_within (nodes_of sources) (number_of sources kind) kind (node_stands sources kind there)
 
-pub free_fits : (sources : Sources) (kind : ArcKind) (from to : NodeKind) (cost : ℕ) → IsNode sources to → 0 < cost →
+pub free_fits : (sources : Sources) (kind : ArcKind) (from to : NodeKind) (cost : ℕ) → HasNode sources to → 0 < cost →
     IsArcFrom sources (number_of sources from) (free_arc sources kind from to cost)
 free_fits sources kind from to cost there some = record {
   tail = refl;
@@ -43,7 +43,7 @@ free_fits sources kind from to cost there some = record {
   light = omega arith;
 }
 
-walk_fits : (sources : Sources) (kind : ArcKind) (from to : NodeKind) (seconds : ℕ) → IsNode sources to → IsArcFrom sources (number_of sources from) (walk_arc sources kind from to seconds)
+walk_fits : (sources : Sources) (kind : ArcKind) (from to : NodeKind) (seconds : ℕ) → HasNode sources to → IsArcFrom sources (number_of sources from) (walk_arc sources kind from to seconds)
 walk_fits sources kind from to seconds there = free_fits sources kind from to (walk_ticks sources seconds) there (omega arith)
 
 -- where a test decides
@@ -87,7 +87,7 @@ walk_leads stops from to None lt = All-nil (λ (walk : WalkRow). walk.to < stops
 walk_leads stops from to (Some seconds) lt =
     All-cons (λ (walk : WalkRow). walk.to < stops) (record { from = from; to = to; seconds = seconds }) [] lt (All-nil (λ (walk : WalkRow). walk.to < stops))
 
-walks_lead : (feed : FeedData) (walks : List WalkRow) (from : ℕ) → All (λ (walk : WalkRow). walk.to < length feed.stops) (walks_from feed walks from)
+pub walks_lead : (feed : FeedData) (walks : List WalkRow) (from : ℕ) → All (λ (walk : WalkRow). walk.to < length feed.stops) (walks_from feed walks from)
 unfolding walks_from
 walks_lead feed walks from =
     all_flat (λ (walk : WalkRow). walk.to < length feed.stops) (λ to. walk_to from to (walk_seconds feed walks from to)) (other_stops feed from)
@@ -95,15 +95,11 @@ walks_lead feed walks from =
     let within = (filter_keeps (λ other. not (other == from)) 0 (length feed.stops) k d lt).0 in
     walk_leads (length feed.stops) from (get_or (other_stops feed from) k d) (walk_seconds feed walks from (get_or (other_stops feed from) k d)) (omega arith))
 
-in_layer : (sources : Sources) (l : Layer) (stop : ℕ) → stop < stop_count sources → IsNode sources (node_in l stop)
-in_layer sources layer.First stop lt = lt
-in_layer sources layer.Later stop lt = lt
-
 pub walks_fit : (sources : Sources) (l : Layer) (stop : ℕ) → All (IsArcFrom sources (number_of sources (node_in l stop))) (walk_arcs sources l stop)
 walks_fit sources l stop =
     All-map (IsArcFrom sources (number_of sources (node_in l stop))) (λ walk. walk_arc sources arc.Walk (node_in l stop) (node_in l walk.to) walk.seconds)
     (walks_from sources.feed sources.walks stop)
     (All-weaker (λ (walk : WalkRow). walk.to < stop_count sources)
     (λ walk. IsArcFrom sources (number_of sources (node_in l stop)) (walk_arc sources arc.Walk (node_in l stop) (node_in l walk.to) walk.seconds))
-    (λ walk lt. walk_fits sources arc.Walk (node_in l stop) (node_in l walk.to) walk.seconds (in_layer sources l walk.to lt))
+    (λ walk lt. walk_fits sources arc.Walk (node_in l stop) (node_in l walk.to) walk.seconds (has_stop sources l walk.to lt))
     (walks_from sources.feed sources.walks stop) (walks_lead sources.feed sources.walks stop))

@@ -94,11 +94,11 @@ first_more sources kept =
     omega arith
 
 -- a line with weight is kept
-pub line_kept : (sources : Sources) (number : ℕ) (kept : List KeptLine) (next : ℕ) (line : KeptLine) (ways : ℕ) → AreKept sources number kept next →
+pub line_kept : (sources : Sources) (number : ℕ) (kept : List KeptLine) (next : ℕ) (line : KeptLine) (segments : ℕ) → AreKept sources number kept next →
     number < length sources.lines → 0 < weight_in sources number → line.line ≡ number → line.route ≡ (line_at sources number).route →
-    line.weight ≡ weight_in sources number → line.first_node ≡ next → ways + 1 ≡ length (line_at sources number).places →
-    AreKept sources (number + 1) (kept ++ line ∷ []) (next + 2 * ways)
-line_kept sources number kept next line ways h lt some one route weight first size =
+    line.weight ≡ weight_in sources number → line.first_node ≡ next → segments + 1 ≡ length (line_at sources number).places →
+    AreKept sources (number + 1) (kept ++ line ∷ []) (next + 2 * segments)
+line_kept sources number kept next line segments h lt some one route weight first size =
     let more : kept_before sources (number + 1) ≡ kept_before sources number ++ number ∷ [] = before_more sources number ∙ rw (lt-ltb 0 (weight_in sources number) some) refl in
     let push : count_before sources (number + 1) ≡ count_before sources number + 1 = ap length more ∙ length-append (kept_before sources number) (number ∷ []) in
     let z : 0 + count_before sources number ≡ count_before sources number = omega arith in
@@ -129,14 +129,14 @@ before_up sources kept (suc more) =
     rw z (omega arith)
 
 -- what a line takes is within its limits
-pub record IsWithin (sources : Sources) (number next ways : ℕ) : Type 0 where
+pub record IsWithin (sources : Sources) (number next segments : ℕ) : Type 0 where
   pub light : weight_in sources number ≤ WEIGHT_LIMIT
   pub first : next ≤ NODE_LIMIT
-  pub after : next + 2 * ways ≤ NODE_LIMIT
+  pub after : next + 2 * segments ≤ NODE_LIMIT
 
-pub line_within : (sources : Sources) (number next ways : ℕ) (kept : List KeptLine) → AreKept sources number kept next → weight_faults sources ≡ [] → node_faults sources ≡ [] →
-    number < length sources.lines → 0 < weight_in sources number → ways + 1 ≡ length (line_at sources number).places → IsWithin sources number next ways
-line_within sources number next ways kept h light few lt some size =
+pub line_within : (sources : Sources) (number next segments : ℕ) (kept : List KeptLine) → AreKept sources number kept next → weight_faults sources ≡ [] → node_faults sources ≡ [] →
+    number < length sources.lines → 0 < weight_in sources number → segments + 1 ≡ length (line_at sources number).places → IsWithin sources number next segments
+line_within sources number next segments kept h light few lt some size =
     let is : slice_index_or (kept_numbers sources) (count_before sources number) 0 ≡ number = stands_next sources number lt some in
     let within : count_before sources number < kept_count sources = kept_within sources number lt some in
     let weights = none_each (λ before. limit_faults limit.Weight WEIGHT_LIMIT (weight_in sources before)) (kept_numbers sources) light (count_before sources number) 0 within in

@@ -4,6 +4,7 @@ pub mod AlongLemmas
 pub mod AmongLemmas
 pub mod ArcLemmas
 pub mod ArcListLemmas
+pub mod BoardedLemmas
 pub mod BoardingLemmas
 pub mod CityLemmas
 pub mod CountLemmas

@@ -84,7 +84,8 @@ tails_within sources ok light =
     let Below : ℕ → Type 0 = λ n. All (λ (found : CityArc). found.arc.tail < n) (flat_map (arcs_from sources) (nodes_of sources)) in
     subst Below z (keyed_below (λ (found : CityArc). found.arc.tail) (arcs_from sources) (nodes_of sources) 0 (arcs_keyed sources ok light))
 
-no_city_arc : CityArc
+-- what stands for an arc where there is none
+pub no_city_arc : CityArc
 no_city_arc = record { arc = no_arc; kind = arc.Access }
 
 tails_rise : (sources : Sources) → AreSources sources → AreLight sources → (one later : ℕ) → one ≤ later → later < length (arcs_of sources) →
@@ -93,7 +94,7 @@ unfolding arcs_of
 tails_rise sources ok light = keyed_rise (λ (found : CityArc). found.arc.tail) (arcs_from sources) (nodes_of sources) 0 (arcs_keyed sources ok light) no_city_arc
 
 -- an arc of the network is that of the city at its place
-arc_is : (sources : Sources) (k a : ℕ) → a < length (network_of sources k).arcs → arc_at (network_of sources k) a ≡ (get_or (arcs_of sources) a no_city_arc).arc
+pub arc_is : (sources : Sources) (k a : ℕ) → a < length (network_of sources k).arcs → arc_at (network_of sources k) a ≡ (get_or (arcs_of sources) a no_city_arc).arc
 arc_is sources k a lt = get_or-map (λ (found : CityArc). found.arc) (arcs_of sources) a no_city_arc no_arc (rw length-map at lt)
 
 arcs_count : (sources : Sources) (k : ℕ) → length (network_of sources k).arcs ≡ length (arcs_of sources)

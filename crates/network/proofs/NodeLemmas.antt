@@ -1,5 +1,5 @@
 -- The nodes of a city: how many there are, and that each one stands at its number.
-use Rattle.std.proofs.Common.{◌≡◌, ℕ, zero, suc, ◌+◌, ◌*◌, ◌-◌, ◌<◌, ◌≤◌, List, ◌++◌, Some, length, refl, subst, ◌∙◌, arith}
+use Rattle.std.proofs.Common.{◌≡◌, ℕ, zero, suc, ◌+◌, ◌*◌, ◌-◌, ◌<◌, List, ◌++◌, Some, length, refl, subst, ◌∙◌, arith}
 use Rattle.std.specs.Prelude.{flat_map, map, slice_get}
 use Rattle.std.specs.List.{range_with_len}
 use Rattle.std.proofs.lemmas.List.{length-append}
@@ -7,22 +7,22 @@ use Rattle.std.proofs.lemmas.List.Concat.{length-flat_map}
 use Rattle.std.proofs.lemmas.List.FromFn.{length-map-range_with_len}
 use Rattle.network.specs.declared.kinds.NodeKind.{NodeKind}
 use Rattle.network.specs.declared.kinds.NodeKind.TheVariants as node
-use Rattle.network.specs.Nodes.{first_node, line_nodes, nodes_before, nodes_of, number_of, places_left, stop_nodes, way_nodes}
+use Rattle.network.specs.Arcs.{node_in}
+use Rattle.network.specs.Nodes.{first_node, line_nodes, nodes_before, nodes_of, number_of, places_left, segment_nodes, stop_nodes}
 use Rattle.network.specs.Sources.{Sources, kept_count, kept_line, stop_count, zone_count}
+use Rattle.network.specs.Towns.{HasNode}
 use Rattle.network.proofs.StandLemmas.{at_left, at_right, gathered, mapped, same_lengths}
+use Rattle.scenarios.specs.declared.layer.Layer.{Layer}
+use Rattle.scenarios.specs.declared.layer.Layer.TheVariants as layer
 
--- how many ways a kept line has: from each place to the next
-abbrev pub ways : Sources → ℕ → ℕ
-ways sources kept = length (kept_line sources kept).places - 1
+-- how many segments a kept line has: from each place to the next
+abbrev pub segments : Sources → ℕ → ℕ
+segments sources kept = length (kept_line sources kept).places - 1
 
--- what a node may stand for: a zone, a stop, or a way of a kept line, by their numbers
-abbrev pub IsNode : Sources → NodeKind → Type 0
-IsNode sources (node.Origin zone) = zone < zone_count sources
-IsNode sources (node.Goal zone) = zone < zone_count sources
-IsNode sources (node.First stop) = stop < stop_count sources
-IsNode sources (node.Later stop) = stop < stop_count sources
-IsNode sources (node.Leave kept place) = (kept < kept_count sources) × (place < ways sources kept)
-IsNode sources (node.Reach kept place) = (kept < kept_count sources) × ((0 < place) × (place ≤ ways sources kept))
+-- the nodes of a stop
+pub has_stop : (sources : Sources) (l : Layer) (stop : ℕ) → stop < stop_count sources → HasNode sources (node_in l stop)
+has_stop sources layer.First stop lt = lt
+has_stop sources layer.Later stop lt = lt
 
 -- ---- the parts of the nodes
 
@@ -52,8 +52,8 @@ stops_size : (sources : Sources) → length (stops sources) ≡ 2 * stop_count s
 stops_size sources = length-flat_map stop_nodes (range_with_len 0 (stop_count sources)) ∙ same_lengths stop_nodes 2 0 (stop_count sources) (λ stop. refl)
 
 -- how many nodes a kept line has
-pub line_size : (sources : Sources) (kept : ℕ) → length (line_nodes sources kept) ≡ 2 * ways sources kept
-line_size sources kept = length-flat_map (way_nodes kept) (places_left sources kept) ∙ same_lengths (way_nodes kept) 2 0 (ways sources kept) (λ place. refl)
+pub line_size : (sources : Sources) (kept : ℕ) → length (line_nodes sources kept) ≡ 2 * segments sources kept
+line_size sources kept = length-flat_map (segment_nodes kept) (places_left sources kept) ∙ same_lengths (segment_nodes kept) 2 0 (segments sources kept) (λ place. refl)
 
 -- how many nodes stand before those of the lines
 pub front_size : (sources : Sources) → length (origins sources ++ goals sources ++ stops sources) ≡ 2 * zone_count sources + 2 * stop_count sources
@@ -107,30 +107,32 @@ stop_stands sources stop rest place kind lt h e =
     (at_left (origins sources ++ goals sources ++ stops sources) (lines sources) place kind
     (at_right (origins sources ++ goals sources) (stops sources) place (2 * stop + rest) (omega arith) ∙ here))
 
--- the node of a kept line at a place of the two of a way
-way_stands : (sources : Sources) (kept way rest place : ℕ) (kind : NodeKind) → kept < kept_count sources → way < ways sources kept →
-    slice_get (way_nodes kept way) rest ≡ Some kind → place ≡ first_node sources kept + 2 * way + rest → slice_get (nodes_of sources) place ≡ Some kind
-way_stands sources kept way rest place kind lt on h e =
-    let z : way ≡ 0 + way = omega arith in
-    let At : ℕ → Type 0 = λ w. slice_get (way_nodes kept w) rest ≡ Some kind in
+-- the node of a kept line at a place of the two of a segment
+segment_stands : (sources : Sources) (kept segment rest place : ℕ) (kind : NodeKind) → kept < kept_count sources → segment < segments sources kept →
+    slice_get (segment_nodes kept segment) rest ≡ Some kind → place ≡ first_node sources kept + 2 * segment + rest → slice_get (nodes_of sources) place ≡ Some kind
+segment_stands sources kept segment rest place kind lt on h e =
+    let z : segment ≡ 0 + segment = omega arith in
+    let At : ℕ → Type 0 = λ w. slice_get (segment_nodes kept w) rest ≡ Some kind in
     let y : 0 + kept ≡ kept = omega arith in
-    let before = same_lengths (way_nodes kept) 2 0 way (λ place. refl) in
-    let line : slice_get (line_nodes sources kept) (2 * way + rest) ≡ Some kind =
-    gathered (way_nodes kept) 0 (ways sources kept) way rest (2 * way + rest) kind on (subst At z h) (omega arith) in
-    let here : slice_get (lines sources) (nodes_before sources kept + (2 * way + rest)) ≡ Some kind =
-    gathered (line_nodes sources) 0 (kept_count sources) kept (2 * way + rest) (nodes_before sources kept + (2 * way + rest)) kind lt (rw y line) refl in
+    let before = same_lengths (segment_nodes kept) 2 0 segment (λ place. refl) in
+    let line : slice_get (line_nodes sources kept) (2 * segment + rest) ≡ Some kind =
+    gathered (segment_nodes kept) 0 (segments sources kept) segment rest (2 * segment + rest) kind on (subst At z h) (omega arith) in
+    let here : slice_get (lines sources) (nodes_before sources kept + (2 * segment + rest)) ≡ Some kind =
+    gathered (line_nodes sources) 0 (kept_count sources) kept (2 * segment + rest) (nodes_before sources kept + (2 * segment + rest)) kind lt (rw y line) refl in
     let front = front_size sources in
     rw (nodes_are sources)
-    (at_right (origins sources ++ goals sources ++ stops sources) (lines sources) place (nodes_before sources kept + (2 * way + rest)) (omega arith) ∙ here)
+    (at_right (origins sources ++ goals sources ++ stops sources) (lines sources) place (nodes_before sources kept + (2 * segment + rest)) (omega arith) ∙ here)
 
-pub node_stands : (sources : Sources) (kind : NodeKind) → IsNode sources kind → slice_get (nodes_of sources) (number_of sources kind) ≡ Some kind
+pub node_stands : (sources : Sources) (kind : NodeKind) → HasNode sources kind → slice_get (nodes_of sources) (number_of sources kind) ≡ Some kind
 node_stands sources (node.Origin zone) h = origin_stands sources zone h
 node_stands sources (node.Goal zone) h = goal_stands sources zone h
 node_stands sources (node.First stop) h = stop_stands sources stop 0 (2 * zone_count sources + 2 * stop) (node.First stop) h refl (omega arith)
 node_stands sources (node.Later stop) h = stop_stands sources stop 1 (2 * zone_count sources + 2 * stop + 1) (node.Later stop) h refl refl
-node_stands sources (node.Leave kept place) h = way_stands sources kept place 0 (first_node sources kept + 2 * place) (node.Leave kept place) h.0 h.1 refl (omega arith)
-node_stands sources (node.Reach kept zero) h = absurd (let some = h.1.0 in omega arith)
+node_stands sources (node.Leave kept place) h =
+    let next = h.next in
+    segment_stands sources kept place 0 (first_node sources kept + 2 * place) (node.Leave kept place) h.kept (omega arith) refl (omega arith)
+node_stands sources (node.Reach kept zero) h = absurd (let some = h.later in omega arith)
 node_stands sources (node.Reach kept (suc place)) h =
-    let most = h.1.1 in
+    let within = h.within in
     let z : place + 1 ≡ suc place = omega arith in
-    way_stands sources kept place 1 (first_node sources kept + 2 * suc place - 1) (node.Reach kept (suc place)) h.0 (omega arith) (rw z refl) (omega arith)
+    segment_stands sources kept place 1 (first_node sources kept + 2 * suc place - 1) (node.Reach kept (suc place)) h.kept (omega arith) (rw z refl) (omega arith)

@@ -4,14 +4,15 @@ use Rattle.std.specs.Prelude.{slice_get}
 use Rattle.std.proofs.lemmas.List.{length-append}
 use Rattle.network.specs.declared.kinds.NodeKind.{NodeKind}
 use Rattle.network.specs.declared.kinds.NodeKind.TheVariants as node
-use Rattle.network.specs.Nodes.{first_node, line_nodes, nodes_of, number_of, stop_nodes, way_nodes}
+use Rattle.network.specs.Nodes.{first_node, line_nodes, nodes_of, number_of, segment_nodes, stop_nodes}
 use Rattle.network.specs.Sources.{Sources, kept_count, stop_count, zone_count}
+use Rattle.network.specs.Towns.{HasNode, HasReach, HasSegment}
 use Rattle.network.proofs.StandLemmas.{either, gathered_only, mapped_only, same_lengths}
-use Rattle.network.proofs.NodeLemmas.{IsNode, front_size, goals, goals_size, lines, nodes_are, origins, origins_size, stops, ways}
+use Rattle.network.proofs.NodeLemmas.{front_size, goals, goals_size, lines, nodes_are, origins, origins_size, segments, stops}
 
 -- what may stand at a place, and has its number
 pub record StandsFor (sources : Sources) (place : ℕ) (kind : NodeKind) : Type 0 where
-  pub there : IsNode sources kind
+  pub there : HasNode sources kind
   pub numbered : number_of sources kind ≡ place
 
 origin_numbered : (sources : Sources) (place : ℕ) (kind : NodeKind) → slice_get (origins sources) place ≡ Some kind → StandsFor sources place kind
@@ -50,16 +51,18 @@ stop_numbered sources place rest kind h e =
     let is = found.is in
     stop_pair sources found.number found.rest place kind found.within (subst At z found.found) (omega arith)
 
--- of the two nodes of a way
-way_pair : (sources : Sources) (kept way rest place : ℕ) (kind : NodeKind) → kept < kept_count sources → way < ways sources kept →
-    slice_get (way_nodes kept way) rest ≡ Some kind → place ≡ first_node sources kept + 2 * way + rest → StandsFor sources place kind
-way_pair sources kept way zero place kind lt on h e =
-    let is : kind ≡ node.Leave kept way = cc in
-    rw is (record { there = (lt, on); numbered = omega arith })
-way_pair sources kept way (suc zero) place kind lt on h e =
-    let is : kind ≡ node.Reach kept (way + 1) = cc in
-    rw is (record { there = (lt, (omega arith, omega arith)); numbered = omega arith })
-way_pair sources kept way (suc (suc rest)) place kind lt on h e = absurd cc
+-- of the two nodes of a segment
+segment_pair : (sources : Sources) (kept segment rest place : ℕ) (kind : NodeKind) → kept < kept_count sources → segment < segments sources kept →
+    slice_get (segment_nodes kept segment) rest ≡ Some kind → place ≡ first_node sources kept + 2 * segment + rest → StandsFor sources place kind
+segment_pair sources kept segment zero place kind lt on h e =
+    let is : kind ≡ node.Leave kept segment = cc in
+    let there : HasSegment sources kept segment = record { kept = lt; next = omega arith } in
+    rw is (record { there = there; numbered = omega arith })
+segment_pair sources kept segment (suc zero) place kind lt on h e =
+    let is : kind ≡ node.Reach kept (segment + 1) = cc in
+    let there : HasReach sources kept (segment + 1) = record { kept = lt; later = omega arith; within = omega arith } in
+    rw is (record { there = there; numbered = omega arith })
+segment_pair sources kept segment (suc (suc rest)) place kind lt on h e = absurd cc
 
 line_numbered : (sources : Sources) (place rest : ℕ) (kind : NodeKind) → slice_get (lines sources) rest ≡ Some kind →
     place ≡ 2 * zone_count sources + 2 * stop_count sources + rest → StandsFor sources place kind
@@ -67,13 +70,13 @@ line_numbered sources place rest kind h e =
     let found = gathered_only (line_nodes sources) 0 (kept_count sources) rest kind h in
     let z : 0 + found.number ≡ found.number = omega arith in
     let At : ℕ → Type 0 = λ k. slice_get (line_nodes sources k) found.rest ≡ Some kind in
-    let on = gathered_only (way_nodes found.number) 0 (ways sources found.number) found.rest kind (subst At z found.found) in
-    let before = same_lengths (way_nodes found.number) 2 0 on.number (λ place. refl) in
+    let on = gathered_only (segment_nodes found.number) 0 (segments sources found.number) found.rest kind (subst At z found.found) in
+    let before = same_lengths (segment_nodes found.number) 2 0 on.number (λ place. refl) in
     let y : 0 + on.number ≡ on.number = omega arith in
-    let On : ℕ → Type 0 = λ w. slice_get (way_nodes found.number w) on.rest ≡ Some kind in
+    let On : ℕ → Type 0 = λ w. slice_get (segment_nodes found.number w) on.rest ≡ Some kind in
     let line = found.is in
-    let way = on.is in
-    way_pair sources found.number on.number on.rest place kind found.within on.within (subst On y on.found) (omega arith)
+    let segment = on.is in
+    segment_pair sources found.number on.number on.rest place kind found.within on.within (subst On y on.found) (omega arith)
 
 pub node_numbered : (sources : Sources) (place : ℕ) (kind : NodeKind) → slice_get (nodes_of sources) place ≡ Some kind → StandsFor sources place kind
 node_numbered sources place kind h =

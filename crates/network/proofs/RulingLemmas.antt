@@ -25,7 +25,7 @@ abbrev pub listed_rulings : List WalkRow → List Ruling
 listed_rulings rows = map (λ row. ruling.Listed row.seconds) rows
 
 abbrev pub station_rulings : Bool → List Ruling
-station_rulings true = ruling.Given 120 ∷ []
+station_rulings true = ruling.Allowed 120 ∷ []
 station_rulings false = []
 
 fold-ways : (from to : ℕ) (first : Ruling) (rest : List Ruling) → fold with_more (way_with from to first) (map (way_with from to) rest) ≡ way_with from to (fold merged first rest)
@@ -36,9 +36,9 @@ pub block-seconds : (from to : ℕ) (rulings : List Ruling) → block_walks (map
 block-seconds from to [] = elim (cases_Bool (from == to)) [ inl e ↦ rw e refl | inr e ↦ rw e refl ]
 block-seconds from to (first ∷ rest) = ap walk_by (fold-ways from to first rest)
 
-given-stays : (seconds : ℕ) (rest : List Ruling) → fold merged (ruling.Given seconds) rest ≡ ruling.Given seconds
-given-stays seconds [] = refl
-given-stays seconds (next ∷ rest) = given-stays seconds rest
+allowed-stays : (seconds : ℕ) (rest : List Ruling) → fold merged (ruling.Allowed seconds) rest ≡ ruling.Allowed seconds
+allowed-stays seconds [] = refl
+allowed-stays seconds (next ∷ rest) = allowed-stays seconds rest
 
 barred-stays : (rest : List Ruling) → fold merged ruling.Barred rest ≡ ruling.Barred
 barred-stays [] = refl
@@ -50,7 +50,7 @@ by-transfers [] true = refl
 by-transfers [] false = refl
 by-transfers (row ∷ rows) shared = elim (cases_Bool row.barred) [
   | inl e ↦ rw e (ap seconds_by (barred-stays (map ruling_of rows ++ station_rulings shared)))
-  | inr e ↦ rw e (ap seconds_by (given-stays row.seconds (map ruling_of rows ++ station_rulings shared)))
+  | inr e ↦ rw e (ap seconds_by (allowed-stays row.seconds (map ruling_of rows ++ station_rulings shared)))
 ]
 
 -- a row of the walks file decides over those

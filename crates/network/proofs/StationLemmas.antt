@@ -114,7 +114,7 @@ parent-none feed stops stop d same lt none =
 
 -- the ways inside the station of one more stop
 pub stations-more : (feed : FeedData) (old before after : List Way) (stop : ℕ) (tos : List ℕ) → before ≡ old ++ flat_map (station_ways feed) (range_with_len 0 stop) → tos ≡ neighbours feed stop
-    → after ≡ before ++ ways_to (ruling.Given 120) tos stop → after ≡ old ++ flat_map (station_ways feed) (range_with_len 0 (stop + 1))
+    → after ≡ before ++ ways_to (ruling.Allowed 120) tos stop → after ≡ old ++ flat_map (station_ways feed) (range_with_len 0 (stop + 1))
 stations-more feed old before after stop tos be te ae =
     let one : after ≡ (old ++ flat_map (station_ways feed) (range_with_len 0 stop)) ++ station_ways feed stop = rw (be, te) at ae in
     one ∙ append_assoc old (flat_map (station_ways feed) (range_with_len 0 stop)) (station_ways feed stop)

@@ -1,56 +1,26 @@
 -- How many nodes a city has, and what its parts are.
-use Rattle.std.proofs.Common.{◌≡◌, ℕ, zero, suc, ◌+◌, ◌-◌, ◌*◌, ◌<◌, ◌≤◌, List, [], ◌∷◌, ◌++◌, Option, Some, None, length, map, get_or, refl, sym, ap, ◌∙◌, subst, arith}
-use Rattle.std.specs.Prelude.{All, flat_map, slice_index_or}
-use Rattle.std.specs.List.{AllByRecursion, range_with_len}
-use Rattle.std.proofs.lemmas.List.{get_or_default, length-append}
-use Rattle.std.proofs.lemmas.List.Concat.{length-flat_map}
-use Rattle.std.proofs.lemmas.List.Elements.{All-from_recursion, recursion_from_All}
-use Rattle.std.proofs.lemmas.List.FromFn.{get_or-map-range_with_len, length-map-range_with_len, length-range_with_len}
+use Rattle.std.proofs.Common.{◌≡◌, ℕ, zero, suc, ◌+◌, ◌-◌, ◌*◌, ◌<◌, ◌≤◌, List, [], length, get_or, sym, subst, arith}
+use Rattle.std.specs.Prelude.{slice_index_or}
+use Rattle.std.proofs.lemmas.List.{get_or_default}
+use Rattle.std.proofs.lemmas.List.Elements.{recursion_from_All}
+use Rattle.std.proofs.lemmas.List.FromFn.{get_or-map-range_with_len, length-map-range_with_len}
 use Rattle.definitions.proofs.Sums.{sum_more}
 use Rattle.demand.specs.declared.tables.WalkRow.{WalkRow}
 use Rattle.headways.specs.declared.line.Line.{Line}
 use Rattle.headways.specs.Laws.{IsLineOf}
-use Rattle.feed_reader.specs.Feed.{FeedData}
 use Rattle.network.specs.declared.kinds.KeptLine.{KeptLine}
-use Rattle.network.specs.declared.kinds.NodeKind.{NodeKind}
-use Rattle.network.specs.declared.kinds.NodeKind.TheVariants as node
-use Rattle.network.specs.Arcs.{node_in}
 use Rattle.network.specs.Conditions.{AreSources}
-use Rattle.network.specs.Nodes.{first_node, kept_at, kept_lines, line_nodes, nodes_before, nodes_of, number_of, places_left, stop_nodes, way_nodes}
-use Rattle.network.specs.Sources.{Sources, kept_count, kept_line, kept_numbers, no_line, stop_count, zone_count}
-use Rattle.network.specs.StopWalks.{other_stops, walk_seconds, walk_to, walks_from, walks_of}
-use Rattle.network.proofs.PlaceLemmas.{all-at, all-flat_map, filter-below}
-use Rattle.network.specs.Towns.{HasNode, IsTown}
-use Rattle.scenarios.specs.declared.layer.Layer.{Layer}
-use Rattle.scenarios.specs.declared.layer.Layer.TheVariants as layer
+use Rattle.network.specs.Nodes.{first_node, kept_at, kept_lines, line_nodes, nodes_before, nodes_of}
+use Rattle.network.specs.Sources.{Sources, kept_count, kept_line, kept_numbers, no_line, stop_count}
+use Rattle.network.specs.StopWalks.{walks_by_stop, walks_from}
+use Rattle.network.specs.Towns.{IsTown}
+use Rattle.network.proofs.NodeLemmas.{line_size, node_count}
+use Rattle.network.proofs.PlaceLemmas.{all-at, filter-below}
 
 pub town-of : (sources now : Sources) (kept : List KeptLine) (walks : List (List WalkRow)) → IsTown sources kept walks → sources ≡ now → IsTown now kept walks
 town-of sources now kept walks town e = subst (λ (s : Sources). IsTown s kept walks) e town
 
 -- ---- how many nodes there are
-
-length-twos : {A B : Type 0} (g : A → List B) (xs : List A) → ((x : A) → length (g x) ≡ 2) → length (flat_map g xs) ≡ 2 * length xs
-length-twos g [] two = refl
-length-twos g (x ∷ xs) two = length-append (g x) (flat_map g xs) ∙ (let here = two x in let rest = length-twos g xs two in omega arith)
-
-pub line-length : (sources : Sources) (line : ℕ) → length (line_nodes sources line) ≡ 2 * (length (kept_line sources line).places - 1)
-line-length sources line =
-    length-twos (way_nodes line) (places_left sources line) (λ x. refl)
-    ∙ ap (λ (n : ℕ). 2 * n) (length-range_with_len 0 (length (kept_line sources line).places - 1))
-
-pub nodes-length : (sources : Sources) → length (nodes_of sources) ≡ 2 * zone_count sources + 2 * stop_count sources + nodes_before sources (kept_count sources)
-unfolding nodes_of
-nodes-length sources =
-    let zones = range_with_len 0 (zone_count sources) in
-    let origins = length-map-range_with_len node.Origin 0 (zone_count sources) in
-    let goals = length-map-range_with_len node.Goal 0 (zone_count sources) in
-    let stops = length-twos stop_nodes (range_with_len 0 (stop_count sources)) (λ x. refl) in
-    let many = length-range_with_len 0 (stop_count sources) in
-    let lines = length-flat_map (line_nodes sources) (range_with_len 0 (kept_count sources)) in
-    let one = length-append (map node.Origin zones) (map node.Goal zones) in
-    let two = length-append (map node.Origin zones ++ map node.Goal zones) (flat_map stop_nodes (range_with_len 0 (stop_count sources))) in
-    let three = length-append (map node.Origin zones ++ map node.Goal zones ++ flat_map stop_nodes (range_with_len 0 (stop_count sources))) (flat_map (line_nodes sources) (range_with_len 0 (kept_count sources))) in
-    omega (arith, origins, goals, stops, many, lines, one, two, three)
 
 before-next : (sources : Sources) (line : ℕ) → nodes_before sources (line + 1) ≡ nodes_before sources line + length (line_nodes sources line)
 before-next sources line = sum_more (λ before. length (line_nodes sources before)) line
@@ -70,7 +40,7 @@ line-room sources line lt =
     let e : line + 1 + (kept_count sources - (line + 1)) ≡ kept_count sources = omega arith in
     let up : nodes_before sources (line + 1) ≤ nodes_before sources (kept_count sources) = rw e at (before-up sources (line + 1) (kept_count sources - (line + 1))) in
     let next = before-next sources line in
-    let all = nodes-length sources in
+    let all = node_count sources in
     omega (arith, up, next, all)
 
 before-many : (sources : Sources) (count : ℕ) → ((line : ℕ) → line < count → 2 ≤ length (line_nodes sources line)) → 2 * count ≤ nodes_before sources count
@@ -105,12 +75,12 @@ line-within sources lines found line same is lt = rw (same, is) (kept-below sour
 
 -- the rides of a kept line are few
 pub rides-few : (sources : Sources) (line rides limit : ℕ) → rides + 1 ≡ length (kept_line sources line).places → line < kept_count sources → length (nodes_of sources) ≤ limit → 2 * rides ≤ limit
-rides-few sources line rides limit each lt few = omega (arith, line-room sources line lt, line-length sources line)
+rides-few sources line rides limit each lt few = omega (arith, line-room sources line lt, line_size sources line)
 
 pub kept-few : (sources : Sources) → AreSources sources → 2 * kept_count sources ≤ length (nodes_of sources)
 kept-few sources laws =
-    let many = before-many sources (kept_count sources) (λ line lt. let law = line-law sources line laws lt in let two = law.two in let long = line-length sources line in omega (arith, two, long)) in
-    let all = nodes-length sources in
+    let many = before-many sources (kept_count sources) (λ line lt. let law = line-law sources line laws lt in let two = law.two in let long = line_size sources line in omega (arith, two, long)) in
+    let all = node_count sources in
     omega (arith, many, all)
 
 -- a kept line by its place among them
@@ -120,47 +90,10 @@ kept-is sources kept line d are lt = rw are (get_or-map-range_with_len (kept_at 
 pub kept-length : (sources : Sources) (kept : List KeptLine) → kept ≡ kept_lines sources → length kept ≡ kept_count sources
 kept-length sources kept are = rw are (length-map-range_with_len (kept_at sources) 0 (kept_count sources))
 
--- ---- numbers of nodes
-
-pub number-room : (sources : Sources) (kind : NodeKind) → HasNode sources kind → number_of sources kind < length (nodes_of sources)
-number-room sources (node.Origin zone) has = let all = nodes-length sources in omega (arith, has, all)
-number-room sources (node.Goal zone) has = let all = nodes-length sources in omega (arith, has, all)
-number-room sources (node.First stop) has = let all = nodes-length sources in omega (arith, has, all)
-number-room sources (node.Later stop) has = let all = nodes-length sources in omega (arith, has, all)
-number-room sources (node.Leave line place) has =
-    let kept : line < kept_count sources = has.kept in
-    let next : place + 1 < length (kept_line sources line).places = has.next in
-    let room = line-room sources line kept in
-    let long = line-length sources line in
-    omega (arith, next, room, long)
-number-room sources (node.Reach line place) has =
-    let kept : line < kept_count sources = has.kept in
-    let within : place < length (kept_line sources line).places = has.within in
-    let later : 0 < place = has.later in
-    let room = line-room sources line kept in
-    let long = line-length sources line in
-    omega (arith, within, later, room, long)
-
 -- ---- walks
 
-pub walks-length : (sources : Sources) (walks : List (List WalkRow)) → walks ≡ walks_of sources.feed sources.walks → length walks ≡ stop_count sources
+pub walks-length : (sources : Sources) (walks : List (List WalkRow)) → walks ≡ walks_by_stop sources.feed sources.walks → length walks ≡ stop_count sources
 walks-length sources walks are = rw are (length-map-range_with_len (walks_from sources.feed sources.walks) 0 (stop_count sources))
 
-pub walks-at : (sources : Sources) (walks : List (List WalkRow)) (stop : ℕ) → walks ≡ walks_of sources.feed sources.walks → stop < stop_count sources → slice_index_or walks stop [] ≡ walks_from sources.feed sources.walks stop
+pub walks-at : (sources : Sources) (walks : List (List WalkRow)) (stop : ℕ) → walks ≡ walks_by_stop sources.feed sources.walks → stop < stop_count sources → slice_index_or walks stop [] ≡ walks_from sources.feed sources.walks stop
 walks-at sources walks stop are lt = rw are (get_or-map-range_with_len (walks_from sources.feed sources.walks) 0 (stop_count sources) stop stop [] lt (omega arith))
-
-pub walks-lead : (feed : FeedData) (walks : List WalkRow) (stop : ℕ) → All (λ walk. walk.to < length feed.stops) (walks_from feed walks stop)
-unfolding walks_from
-walks-lead feed walks stop =
-    All-from_recursion (λ (walk : WalkRow). walk.to < length feed.stops) (walks_from feed walks stop)
-    (all-flat_map (λ (walk : WalkRow). walk.to < length feed.stops) (λ (to : ℕ). to < 0 + length feed.stops) (λ to. walk_to stop to (walk_seconds feed walks stop to)) (other_stops feed stop)
-    (λ to lt. leads to lt (walk_seconds feed walks stop to)) (filter-below _ 0 (length feed.stops)))
-  where
-    leads : (to : ℕ) → to < 0 + length feed.stops → (seconds : Option ℕ) → AllByRecursion (λ (walk : WalkRow). walk.to < length feed.stops) (walk_to stop to seconds)
-    leads to lt None = tt
-    leads to lt (Some seconds) = (omega arith, tt)
-
--- the nodes of a stop
-pub has-stop : (sources : Sources) (layer : Layer) (stop : ℕ) → stop < stop_count sources → HasNode sources (node_in layer stop)
-has-stop sources layer.First stop lt = lt
-has-stop sources layer.Later stop lt = lt

@@ -12,7 +12,7 @@ use Rattle.demand.proofs.UnitLemmas.{both-true}
 use Rattle.feed_reader.specs.Feed.{FeedData}
 use Rattle.feed_reader.specs.declared.timetable.Stop.{Stop}
 use Rattle.feed_reader.specs.declared.timetable.Transfer.{Transfer}
-use Rattle.network.specs.StopWalks.{by_transfers, by_walks, covering, covers, is_side_of, rows_between, share_station, walk_seconds, walk_to, walks_from, walks_of}
+use Rattle.network.specs.StopWalks.{by_transfers, by_walks, covering, covers, is_side_of, rows_between, share_station, walk_seconds, walk_to, walks_by_stop, walks_from}
 use Rattle.network.specs.Ways.{IsWayAmong, by_key, is_way, listed_way, neighbours, ordered, ruling_of, station_ways, transfer_ways, walks_along, walks_by, way_with, ways_between, ways_of, ways_to}
 use Rattle.network.specs.declared.ways.Ruling.{Ruling}
 use Rattle.network.specs.declared.ways.Ruling.TheVariants as ruling
@@ -112,11 +112,11 @@ station-between : (feed : FeedData) (from to : ℕ) → from < length feed.stops
 station-between feed from to lf lt =
     filter-flat (is_way from to) (station_ways feed) (range_with_len 0 (length feed.stops))
     ∙ pick (λ stop. filter (is_way from to) (station_ways feed stop)) from 0 (length feed.stops) (omega arith) (omega arith)
-    (λ stop ne. none-from (ruling.Given 120) (neighbours feed stop) stop from to ne)
-    ∙ one-to (ruling.Given 120) (share_station feed from) (length feed.stops) from to lt
+    (λ stop ne. none-from (ruling.Allowed 120) (neighbours feed stop) stop from to ne)
+    ∙ one-to (ruling.Allowed 120) (share_station feed from) (length feed.stops) from to lt
     ∙ said (share_station feed from to)
   where
-    said : (shared : Bool) → (if shared then way_with from to (ruling.Given 120) ∷ [] else []) ≡ map (way_with from to) (station_rulings shared)
+    said : (shared : Bool) → (if shared then way_with from to (ruling.Allowed 120) ∷ [] else []) ≡ map (way_with from to) (station_rulings shared)
     said true = refl
     said false = refl
 
@@ -192,7 +192,7 @@ are-ordered feed walks stops ways sorted read same all is order r =
     rw e (by_key-twice (λ (way : Way). way.from) (length stops) (by_key (λ (way : Way). way.to) (length stops) (ways_of feed walks)))
 
 pub stop-walks : (feed : FeedData) (walks : List WalkRow) (stops : List Stop) (ways sorted read : List Way) (found : List (List WalkRow)) → stops ≡ feed.stops → All (IsWalkAmong (length feed.stops)) walks
-    → ways ≡ ways_of feed walks → ((n : ℕ) → All (IsWayAmong n) ways → sorted ≡ ordered n ways) → read ≡ sorted → found ≡ walks_by (length stops) read → found ≡ walks_of feed walks
+    → ways ≡ ways_of feed walks → ((n : ℕ) → All (IsWayAmong n) ways → sorted ≡ ordered n ways) → read ≡ sorted → found ≡ walks_by (length stops) read → found ≡ walks_by_stop feed walks
 stop-walks feed walks stops ways sorted read found same all is order r fe =
     let e = sorted-ways feed walks stops ways sorted read same all is order r in
     let whole : found ≡ walks_by (length feed.stops) (ordered (length feed.stops) (ways_of feed walks)) = rw (e, same) at fe in

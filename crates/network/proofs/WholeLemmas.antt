@@ -14,13 +14,13 @@ use Rattle.demand.specs.declared.tables.WalkRow.{WalkRow}
 use Rattle.demand.specs.declared.tables.ZoneLink.{ZoneLink}
 use Rattle.network.specs.declared.boardings.Boarding.{Boarding}
 use Rattle.network.specs.declared.kinds.NodeKind.TheVariants as node
-use Rattle.network.specs.ArcParts.{line_arcs, line_part, stop_node_arcs, stop_part, way_arcs, zone_part}
+use Rattle.network.specs.ArcParts.{line_arcs, line_part, segment_arcs, stop_node_arcs, stop_part, zone_part}
 use Rattle.network.specs.Arcs.{access_arcs, arcs_from, arcs_of, board_arcs, egress_arcs, stop_arcs, walk_arcs}
 use Rattle.network.specs.Boardings.{boardings_in}
 use Rattle.network.specs.Conditions.{AreSources}
-use Rattle.network.specs.Nodes.{line_nodes, nodes_of, places_left, stop_nodes, way_nodes}
+use Rattle.network.specs.Nodes.{line_nodes, nodes_of, places_left, segment_nodes, stop_nodes}
 use Rattle.network.specs.Sources.{Sources, kept_count, stop_count, zone_count}
-use Rattle.network.specs.StopWalks.{walks_from, walks_of}
+use Rattle.network.specs.StopWalks.{walks_by_stop, walks_from}
 use Rattle.network.proofs.AccessLemmas.{access_of, egress_of, walk_of}
 use Rattle.network.proofs.ArcListLemmas.{flat_map-none, flat_map-same, flat_map-twice, length-spread, spread}
 use Rattle.network.proofs.BoardingLemmas.{board_of, boards-of, each-stop}
@@ -35,8 +35,8 @@ four f ws xs ys zs = rw (flat_map-append f (ws ++ xs ++ ys) zs, flat_map-append 
 
 line-is : (sources : Sources) (line : ℕ) → flat_map (arcs_from sources) (line_nodes sources line) ≡ line_arcs sources line
 line-is sources line =
-    flat_map-twice (arcs_from sources) (way_nodes line) (places_left sources line)
-    ∙ flat_map-same _ (way_arcs sources line) (places_left sources line) (λ place. ap (λ l. arcs_from sources (node.Leave line place) ++ l) (append-nil (arcs_from sources (node.Reach line (place + 1)))))
+    flat_map-twice (arcs_from sources) (segment_nodes line) (places_left sources line)
+    ∙ flat_map-same _ (segment_arcs sources line) (places_left sources line) (λ place. ap (λ l. arcs_from sources (node.Leave line place) ++ l) (append-nil (arcs_from sources (node.Reach line (place + 1)))))
 
 pub arcs-parts : (sources : Sources) → arcs_of sources ≡ zone_part sources ++ (stop_part sources ++ line_part sources)
 unfolding arcs_of nodes_of zone_part stop_part line_part
@@ -76,7 +76,7 @@ egress-sum sources layer laws =
     ∙ length-spread (λ (link : ZoneLink). link.stop) (egress_of sources layer) (stop_count sources) sources.zones.links
     (all-weaker (IsLinkAmong (zone_count sources) (stop_count sources)) (λ (link : ZoneLink). link.stop < stop_count sources) sources.zones.links (λ link h. h.stop) (recursion_from_All (IsLinkAmong (zone_count sources) (stop_count sources)) sources.zones.links laws.links))
 
-walk-sum : (sources : Sources) (layer : Layer) → sum_by (λ stop. length (walk_arcs sources layer stop)) (range_with_len 0 (stop_count sources)) ≡ sum_by (λ walks. length walks) (walks_of sources.feed sources.walks)
+walk-sum : (sources : Sources) (layer : Layer) → sum_by (λ stop. length (walk_arcs sources layer stop)) (range_with_len 0 (stop_count sources)) ≡ sum_by (λ walks. length walks) (walks_by_stop sources.feed sources.walks)
 walk-sum sources layer =
     sum_by-same (λ stop. length (walk_arcs sources layer stop)) (λ stop. length (walks_from sources.feed sources.walks stop)) (range_with_len 0 (stop_count sources))
     (λ stop. length-map (walks_from sources.feed sources.walks stop) (walk_of sources layer stop))
@@ -89,7 +89,7 @@ board-sum sources layer laws =
     ∙ spread (λ (boarding : Boarding). boarding.stop) (stop_count sources) (boardings_in sources) (each-stop sources laws)
 
 layer-sum : (sources : Sources) (layer : Layer) → AreSources sources → sum_by (λ stop. length (stop_arcs sources layer stop)) (range_with_len 0 (stop_count sources))
-    ≡ length sources.zones.links + sum_by (λ walks. length walks) (walks_of sources.feed sources.walks) + length (boardings_in sources)
+    ≡ length sources.zones.links + sum_by (λ walks. length walks) (walks_by_stop sources.feed sources.walks) + length (boardings_in sources)
 layer-sum sources layer laws =
     sum_by-same (λ stop. length (stop_arcs sources layer stop)) (λ stop. length (egress_arcs sources layer stop) + length (walk_arcs sources layer stop) + length (board_arcs sources layer stop)) (range_with_len 0 (stop_count sources))
     (λ stop. length-append (egress_arcs sources layer stop ++ walk_arcs sources layer stop) (board_arcs sources layer stop) ∙ ap (λ n. n + length (board_arcs sources layer stop)) (length-append (egress_arcs sources layer stop) (walk_arcs sources layer stop)))
@@ -98,7 +98,7 @@ layer-sum sources layer laws =
     ∙ rw (egress-sum sources layer laws, walk-sum sources layer, board-sum sources layer laws) refl
 
 stop-length : (sources : Sources) → AreSources sources → length (stop_part sources)
-    ≡ 2 * length sources.zones.links + 2 * sum_by (λ walks. length walks) (walks_of sources.feed sources.walks) + 2 * length (boardings_in sources)
+    ≡ 2 * length sources.zones.links + 2 * sum_by (λ walks. length walks) (walks_by_stop sources.feed sources.walks) + 2 * length (boardings_in sources)
 unfolding stop_part
 stop-length sources laws =
     let all = length-flat_map (stop_node_arcs sources) (range_with_len 0 (stop_count sources)) in
@@ -119,7 +119,7 @@ stop-keys sources keys laws are =
     (all-map (λ (key : ℕ). key < stop_count sources) (IsLinkAmong (zone_count sources) (stop_count sources)) (λ link. link.stop) sources.zones.links (λ link h. h.stop) (recursion_from_All (IsLinkAmong (zone_count sources) (stop_count sources)) sources.zones.links laws.links)))
 
 pub arcs-length : (sources : Sources) → AreSources sources → length (arcs_of sources)
-    ≡ 3 * length sources.zones.links + 2 * sum_by (λ walks. length walks) (walks_of sources.feed sources.walks) + 2 * length (boardings_in sources) + length (line_part sources)
+    ≡ 3 * length sources.zones.links + 2 * sum_by (λ walks. length walks) (walks_by_stop sources.feed sources.walks) + 2 * length (boardings_in sources) + length (line_part sources)
 arcs-length sources laws =
     let parts = ap length (arcs-parts sources) in
     let one = length-append (zone_part sources) (stop_part sources ++ line_part sources) in

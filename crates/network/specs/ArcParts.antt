@@ -10,13 +10,13 @@ use Rattle.network.specs.Sources.{Sources, kept_count, stop_count, zone_count}
 abbrev pub stop_node_arcs : Sources → ℕ → List CityArc
 stop_node_arcs sources stop = arcs_from sources (node.First stop) ++ arcs_from sources (node.Later stop)
 
--- the arcs from the nodes of the way from a place of a kept line to the next
-abbrev pub way_arcs : Sources → ℕ → ℕ → List CityArc
-way_arcs sources line place = arcs_from sources (node.Leave line place) ++ arcs_from sources (node.Reach line (place + 1))
+-- the arcs from the nodes of the segment from a place of a kept line to the next
+abbrev pub segment_arcs : Sources → ℕ → ℕ → List CityArc
+segment_arcs sources line place = arcs_from sources (node.Leave line place) ++ arcs_from sources (node.Reach line (place + 1))
 
 -- the arcs from the nodes of a kept line
 abbrev pub line_arcs : Sources → ℕ → List CityArc
-line_arcs sources line = flat_map (way_arcs sources line) (places_left sources line)
+line_arcs sources line = flat_map (segment_arcs sources line) (places_left sources line)
 
 -- the arcs from the nodes of all zones
 unfoldable pub zone_part : Sources → List CityArc

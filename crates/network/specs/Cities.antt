@@ -1,11 +1,13 @@
 -- The network of a city, as contracts see it. Here: docs/FORMATS.md.
-use Rattle.std.specs.Prelude.{◌≡◌, ◌<◌, ◌≤◌, ◌+◌, ℕ, List, Some, length, map, slice_get}
-use Rattle.definitions.specs.Network.{NetworkData}
+use Rattle.std.specs.Prelude.{◌≡◌, ◌<◌, ◌≤◌, ◌+◌, ℕ, List, Some, length, map, slice_get, slice_index_or}
+use Rattle.definitions.specs.Network.{NetworkData, is_boarding}
 use Rattle.network.specs.declared.kinds.ArcKind.{ArcKind}
+use Rattle.network.specs.declared.kinds.ArcKind.TheVariants as arc
 use Rattle.network.specs.declared.kinds.KeptLine.{KeptLine}
 use Rattle.network.specs.declared.kinds.NodeKind.{NodeKind}
 use Rattle.network.specs.declared.kinds.NodeKind.TheVariants as node
 use Rattle.network.specs.Arcs.{arcs_of}
+use Rattle.network.specs.Kinds.{is_boarding_kind}
 use Rattle.network.specs.Nodes.{kept_lines, nodes_of}
 use Rattle.network.specs.Sources.{Sources, zone_count}
 
@@ -30,10 +32,15 @@ abbrev pub city_of : Sources → ℕ → CityData
 city_of sources k =
     city_with (network_of sources k) (zone_count sources) (nodes_of sources) (map (λ found. found.kind) (arcs_of sources)) (kept_lines sources)
 
--- each node and each arc stands for something, and each zone has an origin and a goal among the nodes
+-- what the arc of a number stands for
+abbrev pub arc_kind_of : CityData → ℕ → ArcKind
+arc_kind_of city number = slice_index_or city.arcs number arc.Walk
+
+-- each node and each arc stands for something, each zone has an origin and a goal among the nodes, and just the boardings have a weight
 pub record IsCity (city : CityData) : Type 0 where
   pub node_each : length city.nodes ≡ city.net.nodes
   pub arc_each : length city.arcs ≡ length city.net.arcs
   pub two_each : city.zones + city.zones ≤ city.net.nodes
   pub origins : (zone : ℕ) → zone < city.zones → slice_get city.nodes zone ≡ Some (node.Origin zone)
   pub goals : (zone : ℕ) → zone < city.zones → slice_get city.nodes (city.zones + zone) ≡ Some (node.Goal zone)
+  pub boardings : (number : ℕ) → number < length city.net.arcs → is_boarding city.net number ≡ is_boarding_kind (arc_kind_of city number)

@@ -1,5 +1,5 @@
 -- What the parts of a city have to keep for its network to be built: their numbers name parts of the feed.
-use Rattle.std.specs.Prelude.{◌≤◌, All, length}
+use Rattle.std.specs.Prelude.{◌≤◌, All}
 use Rattle.demand.specs.Laws.{IsLinkAmong, IsWalkAmong}
 use Rattle.headways.specs.Laws.{IsLineOf}
 use Rattle.network.specs.Sources.{Sources, stop_count, zone_count}

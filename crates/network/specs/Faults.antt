@@ -1,5 +1,5 @@
 -- The faults of the network of a city: what passes a limit. Here: docs/FORMATS.md.
-use Rattle.std.specs.Prelude.{◌≡◌, ◌⊎◌, ◌++◌, ℕ, List, [], ◌∷◌, Some, flat_map, length, map, nat_lt, if◌then◌else◌, slice_get}
+use Rattle.std.specs.Prelude.{◌≡◌, ◌⊎◌, ◌++◌, ℕ, List, [], ◌∷◌, Some, flat_map, length, nat_lt, if◌then◌else◌, slice_get}
 use Rattle.definitions.specs.declared.limits.TheConstants.{ARC_LIMIT, COST_LIMIT, NODE_LIMIT, WEIGHT_LIMIT}
 use Rattle.network.specs.declared.fault.BuildFault.{BuildFault}
 use Rattle.network.specs.declared.fault.BuildFault.TheVariants as fault

@@ -8,6 +8,7 @@ pub mod Conditions
 pub mod Faults
 pub mod Groups
 pub mod Kept
+pub mod Kinds
 pub mod Nodes
 pub mod Parts
 pub mod Sources

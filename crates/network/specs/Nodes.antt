@@ -14,13 +14,13 @@ places_left sources kept = range_with_len 0 (length (kept_line sources kept).pla
 abbrev pub stop_nodes : ℕ → List NodeKind
 stop_nodes stop = node.First stop ∷ node.Later stop ∷ []
 
--- the nodes of the way from a place of a kept line to the next
-abbrev pub way_nodes : ℕ → ℕ → List NodeKind
-way_nodes kept place = node.Leave kept place ∷ node.Reach kept (place + 1) ∷ []
+-- the nodes of the segment from a place of a kept line to the next
+abbrev pub segment_nodes : ℕ → ℕ → List NodeKind
+segment_nodes kept place = node.Leave kept place ∷ node.Reach kept (place + 1) ∷ []
 
 -- the nodes of a kept line, from its first place to its last
 abbrev pub line_nodes : Sources → ℕ → List NodeKind
-line_nodes sources kept = flat_map (way_nodes kept) (places_left sources kept)
+line_nodes sources kept = flat_map (segment_nodes kept) (places_left sources kept)
 
 -- all nodes: the origins of the zones, their goals, the nodes of the stops, and those of the kept lines
 unfoldable pub nodes_of : Sources → List NodeKind

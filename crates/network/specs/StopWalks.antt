@@ -72,5 +72,5 @@ unfoldable pub walks_from : FeedData → List WalkRow → ℕ → List WalkRow
 walks_from feed walks from = flat_map (λ to. walk_to from to (walk_seconds feed walks from to)) (other_stops feed from)
 
 -- the walks from each stop, by its number
-abbrev pub walks_of : FeedData → List WalkRow → List (List WalkRow)
-walks_of feed walks = map (walks_from feed walks) (range_with_len 0 (length feed.stops))
+abbrev pub walks_by_stop : FeedData → List WalkRow → List (List WalkRow)
+walks_by_stop feed walks = map (walks_from feed walks) (range_with_len 0 (length feed.stops))

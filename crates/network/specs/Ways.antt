@@ -20,7 +20,7 @@ listed_way walk = way_with walk.from walk.to (ruling.Listed walk.seconds)
 
 -- what a row of transfers.txt says
 abbrev pub ruling_of : Transfer → Ruling
-ruling_of row = if row.barred then ruling.Barred else ruling.Given row.seconds
+ruling_of row = if row.barred then ruling.Barred else ruling.Allowed row.seconds
 
 -- the ways from a stop to each of some stops
 abbrev pub ways_to : Ruling → List ℕ → ℕ → List Way
@@ -44,7 +44,7 @@ neighbours feed stop = filter (share_station feed stop) (range_with_len 0 (lengt
 
 -- the ways from a stop inside its station
 abbrev pub station_ways : FeedData → ℕ → List Way
-station_ways feed stop = ways_to (ruling.Given 120) (neighbours feed stop) stop
+station_ways feed stop = ways_to (ruling.Allowed 120) (neighbours feed stop) stop
 
 -- the ways of the walks file, then those of transfers.txt, then those inside stations
 unfoldable pub ways_of : FeedData → List WalkRow → List Way
@@ -73,9 +73,9 @@ ordered stops ways = by_key (λ way. way.from) stops (by_key (λ way. way.to) st
 -- the first ruling, and the less of two by rows of the walks file
 abbrev pub merged : Ruling → Ruling → Ruling
 merged (ruling.Listed seconds) (ruling.Listed others) = ruling.Listed (min seconds others)
-merged (ruling.Listed seconds) (ruling.Given others) = ruling.Listed seconds
+merged (ruling.Listed seconds) (ruling.Allowed others) = ruling.Listed seconds
 merged (ruling.Listed seconds) ruling.Barred = ruling.Listed seconds
-merged (ruling.Given seconds) later = ruling.Given seconds
+merged (ruling.Allowed seconds) later = ruling.Allowed seconds
 merged ruling.Barred later = ruling.Barred
 
 -- a way, of which another source tells as well
@@ -85,7 +85,7 @@ with_more way more = way_with way.from way.to (merged way.ruling more.ruling)
 -- the seconds that a ruling gives
 abbrev pub seconds_by : Ruling → Option ℕ
 seconds_by (ruling.Listed seconds) = Some seconds
-seconds_by (ruling.Given seconds) = Some seconds
+seconds_by (ruling.Allowed seconds) = Some seconds
 seconds_by ruling.Barred = None
 
 -- the walk by a way, if it leads to another stop and is not barred

@@ -102,3 +102,23 @@ impl CityArcs {
         self.free(town, kind, from, to, town.walk_ticks(seconds))
     }
 }
+
+#[cfg(test)]
+mod tests {
+    use super::*;
+    use std::test::Fail;
+
+    #[test]
+    fn a_cost_past_the_limit_is_refused(rt: HostRuntime) -> Result<(), Fail> {
+        let mut arcs = CityArcs::with_room(rt.alloc(), 1).map_err(|_| "arcs")?;
+        assert_eq!(rt; arcs.push(ArcKind::Walk, 0, 1, 1_000_000_000, None), Ok(()));
+        let fault = BuildFault::Range {
+            limit: Limit::Cost,
+            count: 1_000_000_001,
+        };
+        let past = arcs.push(ArcKind::Walk, 0, 1, 1_000_000_001, None);
+        assert_eq!(rt; past, Err(fault));
+        assert_eq!(rt; arcs.arcs.as_slice().len(), 1);
+        Ok(())
+    }
+}

@@ -4,7 +4,7 @@ ghost use Rattle.std.specs.Prelude.{◌≡◌, ◌<◌, ◌^◌, ◌++◌, [], �
 ghost use Rattle.network.specs.Boardings.{AreBoardings, boarding_at, boardings_in, fare_in, fares_at, fares_in, is_boarded, line_boardings};
 ghost use Rattle.network.specs.Groups.{groups_of};
 ghost use Rattle.network.specs.Sources.{kept_count, stop_count};
-ghost use Rattle.network.specs.Towns.{HasWay};
+ghost use Rattle.network.specs.Towns.{HasSegment};
 ghost use Rattle.network.specs.declared.fault.BuildFault.TheVariants as fault;
 ghost use Rattle.scenarios.specs.Tariffs.{KeepsTicks, scenario_in};
 
@@ -98,7 +98,7 @@ fn groups_by_stop(alloc: Global, town: &Town, stops: &[u32]) -> Result<Groups, B
 
 // Whether passengers may board a kept line at a place.
 fn is_boarded(town: &Town, line: u32, place: u32) -> bool
-    requires way { HasWay town.now line place }
+    requires segment { HasSegment town.now line place }
     ensures value { result ≡ is_boarded town.now line place }
 {
     let here = town.place(line, place);
@@ -107,7 +107,7 @@ fn is_boarded(town: &Town, line: u32, place: u32) -> bool
 
 // Adds the boarding of a kept line at a place, if passengers may board there.
 fn add_place(town: &Town, line: u32, place: u32, list: &mut Vec<Boarding>) -> Result<(), BuildFault>
-    requires way { HasWay town.now line place }
+    requires segment { HasSegment town.now line place }
     ensures added { OnOk result (list.new.items ≡ list.old.items
         ++ (if is_boarded town.now line place then boarding_at town.now line place ∷ [] else [])) }
     ensures no_memory { IfErr result (λ e. e ≡ fault.NoMemory) }
@@ -125,7 +125,7 @@ fn add_line(town: &Town, line: u32, list: &mut Vec<Boarding>) -> Result<(), Buil
     ensures added { OnOk result (list.new.items ≡ list.old.items ++ line_boardings town.now line) }
     ensures no_memory { IfErr result (λ e. e ≡ fault.NoMemory) }
 {
-    for place in 0..town.ways(line) {
+    for place in 0..town.segments(line) {
         add_place(town, line, place, list)?;
     }
     Ok(())

@@ -5,7 +5,7 @@ ghost use Rattle.definitions.specs.declared.limits.TheConstants.{K_LIMIT};
 ghost use Rattle.network.specs.Arcs.{arcs_of};
 ghost use Rattle.network.specs.Cities.{city_of, network_of};
 ghost use Rattle.network.specs.Conditions.{AreSources};
-ghost use Rattle.network.specs.Built.{AreParts, arcs_faults};
+ghost use Rattle.network.specs.Built.{AreNodesAndArcs, arcs_faults};
 ghost use Rattle.network.specs.Faults.{IsFirstFault, city_faults, node_faults};
 ghost use Rattle.network.specs.Nodes.{kept_lines, nodes_of, number_of};
 ghost use Rattle.network.specs.Sources.{sources_with};
@@ -73,19 +73,19 @@ pub fn build<F: Fn(u32, Layer) -> u64>(
 {
     let given = Given::new(feed, lines, zones, walks, scenario);
     let kept = kept_lines(alloc, &given)?;
-    let parts = parts_of(alloc, feed, lines, zones, walks, scenario, fare, &kept)?;
+    let parts = nodes_and_arcs(alloc, feed, lines, zones, walks, scenario, fare, &kept)?;
     city_of(&given, k, parts, kept)
 }
 
 // What the nodes of a network stand for, and its arcs.
 #[derive(Drop)]
-struct Parts {
+struct NodesAndArcs {
     nodes: Vec<NodeKind>,
     arcs: CityArcs,
 }
 
 // The nodes and the arcs of sources with these kept lines.
-fn parts_of<F: Fn(u32, Layer) -> u64>(
+fn nodes_and_arcs<F: Fn(u32, Layer) -> u64>(
     alloc: Global,
     feed: &Feed,
     lines: &Lines,
@@ -94,7 +94,7 @@ fn parts_of<F: Fn(u32, Layer) -> u64>(
     scenario: &Scenario,
     fare: &TimeFare<F>,
     kept: &[KeptLine],
-) -> Result<Parts, BuildFault>
+) -> Result<NodesAndArcs, BuildFault>
     requires sources { AreSources
         (sources_with feed.now lines.now.lines zones.now walks.now scenario.now) }
     requires fare { scenario_in fare.now ≡ scenario.now }
@@ -103,7 +103,7 @@ fn parts_of<F: Fn(u32, Layer) -> u64>(
         (sources_with feed.now lines.now.lines zones.now walks.now scenario.now) }
     requires few { node_faults
         (sources_with feed.now lines.now.lines zones.now walks.now scenario.now) ≡ [] }
-    ensures parts { IfOk result (AreParts
+    ensures parts { IfOk result (AreNodesAndArcs
         (sources_with feed.now lines.now.lines zones.now walks.now scenario.now)) }
     ensures refused { IfErr result (IsFirstFault (arcs_faults
         (sources_with feed.now lines.now.lines zones.now walks.now scenario.now))) }
@@ -112,19 +112,24 @@ fn parts_of<F: Fn(u32, Layer) -> u64>(
     let town = Town::new(feed, lines, zones, walks, scenario, kept, &stop_walks);
     let nodes = node_kinds(alloc, &town)?;
     let arcs = city_arcs(alloc, &town, fare)?;
-    Ok(Parts { nodes, arcs })
+    Ok(NodesAndArcs { nodes, arcs })
 }
 
 // The city of these parts, which has no fault.
-fn city_of(given: &Given, k: u64, parts: Parts, kept: Vec<KeptLine>) -> Result<CityNet, BuildFault>
+fn city_of(
+    given: &Given,
+    k: u64,
+    parts: NodesAndArcs,
+    kept: Vec<KeptLine>,
+) -> Result<CityNet, BuildFault>
     requires k { k ≤ K_LIMIT }
-    requires parts { AreParts given.now parts }
+    requires parts { AreNodesAndArcs given.now parts }
     requires kept { kept.items ≡ kept_lines given.now }
     requires faultless { city_faults given.now ≡ [] }
     ensures city { IfOk result (λ city. city ≡ city_of given.now k) }
     ensures no_memory { IfErr result (λ e. e ≡ fault.NoMemory) }
 {
-    let Parts { nodes, arcs } = parts;
+    let NodesAndArcs { nodes, arcs } = parts;
     let CityArcs { arcs, kinds } = arcs;
     let net = network_of(given, nodes.len() as u32, arcs, k)?;
     Ok(CityNet::of(net, given.zones(), nodes, kinds, kept))

@@ -181,3 +181,20 @@ fn group_by_stop(alloc: Global, town: &Town, stops: &[u32]) -> Result<Groups, Bu
     town.rules();
     Groups::new(alloc, town.stops(), stops)
 }
+
+#[cfg(test)]
+mod tests {
+    use super::*;
+    use std::test::Fail;
+
+    #[test]
+    fn an_arc_past_the_limit_is_refused(rt: HostRuntime) -> Result<(), Fail> {
+        assert_eq!(rt; judge_count(4_194_304), Ok(()));
+        let fault = BuildFault::Range {
+            limit: Limit::Arcs,
+            count: 4_194_305,
+        };
+        assert_eq!(rt; judge_count(4_194_305), Err(fault));
+        Ok(())
+    }
+}

@@ -1,11 +1,11 @@
 //! How many arcs a city has.
 
 ghost use Rattle.std.specs.Prelude.{◌≡◌, ◌<◌, ◌≤◌, ◌*◌, length};
-ghost use Rattle.network.specs.ArcParts.{line_arcs, line_part, way_arcs};
+ghost use Rattle.network.specs.ArcParts.{line_arcs, line_part, segment_arcs};
 ghost use Rattle.network.specs.Arcs.{alight_arcs, arcs_of, dwell_arcs};
 ghost use Rattle.network.specs.Boardings.{boardings_in};
 ghost use Rattle.network.specs.Sources.{kept_count};
-ghost use Rattle.network.specs.Towns.{HasReach, HasWay};
+ghost use Rattle.network.specs.Towns.{HasReach, HasSegment};
 
 use crate::town::Town;
 
@@ -15,7 +15,7 @@ fn dwell_count(town: &Town, line: u32, place: u32) -> u64
     ensures value { result ≡ length (dwell_arcs town.now line place) }
     ensures within { result ≤ 1 }
 {
-    if place == town.ways(line) { 0 } else { 1 }
+    if place == town.segments(line) { 0 } else { 1 }
 }
 
 // How many alightings a kept line has at a place.
@@ -32,10 +32,10 @@ fn alight_count(town: &Town, line: u32, place: u32) -> u64
     }
 }
 
-// How many arcs the way of a kept line from a place to the next has.
-fn way_count(town: &Town, line: u32, place: u32) -> u64
-    requires way { HasWay town.now line place }
-    ensures value { result ≡ length (way_arcs town.now line place) }
+// How many arcs the segment of a kept line from a place to the next has.
+fn segment_count(town: &Town, line: u32, place: u32) -> u64
+    requires segment { HasSegment town.now line place }
+    ensures value { result ≡ length (segment_arcs town.now line place) }
     ensures within { result ≤ 3 }
 {
     let next = town.next(line, place);
@@ -49,8 +49,8 @@ fn line_count(town: &Town, line: u32) -> u64
     ensures within { result ≤ 2097152 }
 {
     let mut count = 0;
-    for place in 0..town.ways(line) {
-        count += way_count(town, line, place);
+    for place in 0..town.segments(line) {
+        count += segment_count(town, line, place);
     }
     count
 }

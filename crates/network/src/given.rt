@@ -115,8 +115,8 @@ impl<'a> Given<'a> {
         self.scenario.weight(line.route, line.weight)
     }
 
-    /// How many ways a line has, each from a place to the next.
-    pub(crate) fn ways(&self, number: u32) -> usize
+    /// How many segments a line has, each from a place to the next.
+    pub(crate) fn segments(&self, number: u32) -> usize
         requires number { number < length self.now.lines }
         ensures value { result + 1 ≡ length (line_at self.now number).places }
     {

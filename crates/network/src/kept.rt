@@ -2,11 +2,12 @@
 
 ghost use Rattle.std.specs.Prelude.{◌≡◌, ◌<◌, ◌≤◌, ◌+◌, ◌++◌, ◌^◌, ℕ, [], IfErr, IfOk, OnOk, length};
 ghost use Rattle.definitions.specs.declared.limits.TheConstants.{NODE_LIMIT, WEIGHT_LIMIT};
-ghost use Rattle.network.specs.Faults.{IsFirstFault, node_faults, weight_faults};
+ghost use Rattle.network.specs.Faults.{IsFirstFault, limit_faults, node_faults, weight_faults};
 ghost use Rattle.network.specs.Kept.{AreKept, nodes_for};
 ghost use Rattle.network.specs.Nodes.{kept_lines, nodes_of};
 ghost use Rattle.network.specs.Sources.{weight_in};
 ghost use Rattle.network.specs.declared.fault.BuildFault.TheVariants as fault;
+ghost use Rattle.network.specs.declared.fault.Limit.TheVariants as limit;
 
 use crate::fault::{BuildFault, Limit};
 use crate::given::Given;
@@ -37,19 +38,26 @@ fn judge_weights(given: &Given) -> Result<(), BuildFault>
     ensures refused { IfErr result (IsFirstFault (weight_faults given.now)) }
 {
     for number in 0..given.lines() {
-        judge_weight(given, number)?;
+        judge_line(given, number)?;
     }
     Ok(())
 }
 
 // Judges the weight of a line, where those before it are within the limit.
-fn judge_weight(given: &Given, number: u32) -> Result<(), BuildFault>
+fn judge_line(given: &Given, number: u32) -> Result<(), BuildFault>
     requires number { number < length given.now.lines }
     requires before { (before : ℕ) → before < number → weight_in given.now before ≤ WEIGHT_LIMIT }
     ensures within { OnOk result (weight_in given.now number ≤ WEIGHT_LIMIT) }
     ensures refused { IfErr result (IsFirstFault (weight_faults given.now)) }
 {
-    let weight = given.weight(number);
+    judge_weight(given.weight(number))
+}
+
+// Refuses a weight that is past the limit.
+fn judge_weight(weight: u64) -> Result<(), BuildFault>
+    ensures within { OnOk result (weight ≤ WEIGHT_LIMIT) }
+    ensures refused { IfErr result (IsFirstFault (limit_faults limit.Weight WEIGHT_LIMIT weight)) }
+{
     if weight > u64::from(WEIGHT_LIMIT) {
         return Err(BuildFault::Range {
             limit: Limit::Weight,
@@ -64,12 +72,17 @@ fn judge_nodes(given: &Given) -> Result<(), BuildFault>
     ensures faultless { OnOk result (node_faults given.now ≡ []) }
     ensures refused { IfErr result (IsFirstFault (node_faults given.now)) }
 {
-    let count = count_nodes(given);
+    judge_count(count_nodes(given))
+}
+
+// Refuses a number of nodes that is past the limit.
+fn judge_count(count: u128) -> Result<(), BuildFault>
+    ensures faultless { OnOk result (limit_faults limit.Nodes NODE_LIMIT count ≡ []) }
+    ensures refused { IfErr result (IsFirstFault (limit_faults limit.Nodes NODE_LIMIT count)) }
+{
     if count > u128::from(NODE_LIMIT) {
-        return Err(BuildFault::Range {
-            limit: Limit::Nodes,
-            count,
-        });
+        let limit = Limit::Nodes;
+        return Err(BuildFault::Range { limit, count });
     }
     Ok(())
 }
@@ -92,7 +105,7 @@ fn nodes_for(given: &Given, number: u32) -> u128
     ensures within { result < 2 ^ 65 }
 {
     if given.weight(number) > 0 {
-        2 * given.ways(number) as u128
+        2 * given.segments(number) as u128
     } else {
         0
     }
@@ -131,12 +144,40 @@ fn keep_line(
     if weight == 0 {
         return Ok(next);
     }
-    let ways = given.ways(number) as u64;
+    let segments = given.segments(number) as u64;
     kept.push(KeptLine {
         line: number,
         route: given.route(number),
         weight: weight as u32,
         first_node: next as u32,
     })?;
-    Ok(next + 2 * ways)
+    Ok(next + 2 * segments)
+}
+
+#[cfg(test)]
+mod tests {
+    use super::*;
+    use std::test::Fail;
+
+    #[test]
+    fn a_weight_past_the_limit_is_refused(rt: HostRuntime) -> Result<(), Fail> {
+        assert_eq!(rt; judge_weight(4_294_967_295), Ok(()));
+        let fault = BuildFault::Range {
+            limit: Limit::Weight,
+            count: 4_294_967_296,
+        };
+        assert_eq!(rt; judge_weight(4_294_967_296), Err(fault));
+        Ok(())
+    }
+
+    #[test]
+    fn a_node_past_the_limit_is_refused(rt: HostRuntime) -> Result<(), Fail> {
+        assert_eq!(rt; judge_count(1_048_576), Ok(()));
+        let fault = BuildFault::Range {
+            limit: Limit::Nodes,
+            count: 1_048_577,
+        };
+        assert_eq!(rt; judge_count(1_048_577), Err(fault));
+        Ok(())
+    }
 }

@@ -80,7 +80,7 @@ fn add_line(town: &Town, line: u32, nodes: &mut Vec<NodeKind>) -> Result<(), Bui
     ensures added { OnOk result (nodes.new.items ≡ nodes.old.items ++ line_nodes town.now line) }
     ensures no_memory { IfErr result (λ e. e ≡ fault.NoMemory) }
 {
-    for place in 0..town.ways(line) {
+    for place in 0..town.segments(line) {
         nodes.push(NodeKind::Leave { line, place })?;
         nodes.push(NodeKind::Reach {
             line,

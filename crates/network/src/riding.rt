@@ -2,11 +2,11 @@
 
 ghost use Rattle.std.specs.Prelude.{◌≡◌, ◌<◌, [], ◌∷◌, IfErr, OnOk};
 ghost use Rattle.network.specs.Adding.{Adds};
-ghost use Rattle.network.specs.ArcParts.{line_arcs, line_part, way_arcs};
+ghost use Rattle.network.specs.ArcParts.{line_arcs, line_part, segment_arcs};
 ghost use Rattle.network.specs.Arcs.{alight_arcs, dwell_arcs, ride_arc};
 ghost use Rattle.network.specs.Faults.{IsFirstFault, cost_faults};
 ghost use Rattle.network.specs.Sources.{kept_count};
-ghost use Rattle.network.specs.Towns.{HasReach, HasWay};
+ghost use Rattle.network.specs.Towns.{HasReach, HasSegment};
 
 use crate::arcs::CityArcs;
 use crate::fault::BuildFault;
@@ -15,7 +15,7 @@ use crate::town::Town;
 
 // Adds the ride of a kept line from a place to the next.
 fn add_ride(town: &Town, line: u32, place: u32, arcs: &mut CityArcs) -> Result<(), BuildFault>
-    requires way { HasWay town.now line place }
+    requires segment { HasSegment town.now line place }
     ensures added { OnOk result (Adds arcs.old arcs.new (ride_arc town.now line place ∷ [])) }
     ensures refused { IfErr result
         (IsFirstFault (cost_faults (ride_arc town.now line place ∷ []))) }
@@ -35,7 +35,7 @@ fn add_dwell(town: &Town, line: u32, place: u32, arcs: &mut CityArcs) -> Result<
     ensures added { OnOk result (Adds arcs.old arcs.new (dwell_arcs town.now line place)) }
     ensures refused { IfErr result (IsFirstFault (cost_faults (dwell_arcs town.now line place))) }
 {
-    if place == town.ways(line) {
+    if place == town.segments(line) {
         return Ok(());
     }
     let dwell = town.line(line).dwells.as_slice()[(place - 1) as usize];
@@ -59,11 +59,11 @@ fn add_alight(town: &Town, line: u32, place: u32, arcs: &mut CityArcs) -> Result
     arcs.free(town, ArcKind::Alight, from, to, 1)
 }
 
-// Adds the arcs of the way of a kept line from a place to the next.
-fn add_way(town: &Town, line: u32, place: u32, arcs: &mut CityArcs) -> Result<(), BuildFault>
-    requires way { HasWay town.now line place }
-    ensures added { OnOk result (Adds arcs.old arcs.new (way_arcs town.now line place)) }
-    ensures refused { IfErr result (IsFirstFault (cost_faults (way_arcs town.now line place))) }
+// Adds the arcs of the segment of a kept line from a place to the next.
+fn add_segment(town: &Town, line: u32, place: u32, arcs: &mut CityArcs) -> Result<(), BuildFault>
+    requires segment { HasSegment town.now line place }
+    ensures added { OnOk result (Adds arcs.old arcs.new (segment_arcs town.now line place)) }
+    ensures refused { IfErr result (IsFirstFault (cost_faults (segment_arcs town.now line place))) }
 {
     add_ride(town, line, place, arcs)?;
     let next = town.next(line, place);
@@ -77,8 +77,8 @@ fn add_line(town: &Town, line: u32, arcs: &mut CityArcs) -> Result<(), BuildFaul
     ensures added { OnOk result (Adds arcs.old arcs.new (line_arcs town.now line)) }
     ensures refused { IfErr result (IsFirstFault (cost_faults (line_arcs town.now line))) }
 {
-    for place in 0..town.ways(line) {
-        add_way(town, line, place, arcs)?;
+    for place in 0..town.segments(line) {
+        add_segment(town, line, place, arcs)?;
     }
     Ok(())
 }

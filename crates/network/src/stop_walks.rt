@@ -4,7 +4,7 @@ ghost use Rattle.std.specs.Prelude.{◌≡◌, ◌<◌, ◌≤◌, ◌+◌, ◌+
 ghost use Rattle.std.specs.List.{prefix_len};
 ghost use Rattle.demand.specs.Laws.{IsWalkAmong};
 ghost use Rattle.network.specs.Parts.{AreFirsts, parts_of};
-ghost use Rattle.network.specs.StopWalks.{walks_of};
+ghost use Rattle.network.specs.StopWalks.{walks_by_stop};
 ghost use Rattle.network.specs.Ways.{IsWayAmong, by_key, ordered, walk_by, walks_after, walks_along, walks_by, with_more};
 ghost use Rattle.network.specs.declared.fault.BuildFault.TheVariants as fault;
 
@@ -64,7 +64,7 @@ impl StopWalks {
 /// between the stops of a station.
 pub(crate) fn stop_walks(alloc: Global, feed: &Feed, walks: &Walks) -> Result<StopWalks, BuildFault>
     requires walks { All (IsWalkAmong (length feed.now.stops)) walks.now }
-    ensures walks { IfOk result (λ found. found ≡ walks_of feed.now walks.now) }
+    ensures walks { IfOk result (λ found. found ≡ walks_by_stop feed.now walks.now) }
     ensures no_memory { IfErr result (λ e. e ≡ fault.NoMemory) }
 {
     let mut ways = ways_of(alloc, feed, walks.list())?;

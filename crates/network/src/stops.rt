@@ -8,7 +8,7 @@ ghost use Rattle.network.specs.Boardings.{AreBoardings, fares_in};
 ghost use Rattle.network.specs.Faults.{IsFirstFault, cost_faults};
 ghost use Rattle.network.specs.Groups.{groups_of};
 ghost use Rattle.network.specs.Sources.{stop_count};
-ghost use Rattle.network.specs.Towns.{HasWay};
+ghost use Rattle.network.specs.Towns.{HasSegment};
 
 use crate::access::add_egress;
 use crate::arcs::CityArcs;
@@ -44,7 +44,7 @@ fn add_boarding(
     arcs: &mut CityArcs,
 ) -> Result<(), BuildFault>
     requires stop { stop < stop_count town.now }
-    requires way { HasWay town.now boarding.line boarding.place }
+    requires segment { HasSegment town.now boarding.line boarding.place }
     requires fares { fares.now ≡ fares_in town.now }
     ensures added { OnOk result (Adds arcs.old arcs.new
         (board_arc town.now layer stop boarding.line boarding.place ∷ [])) }

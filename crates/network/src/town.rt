@@ -8,8 +8,8 @@ ghost use Rattle.network.specs.Arcs.{place_at};
 ghost use Rattle.network.specs.Conditions.{AreSources};
 ghost use Rattle.network.specs.Nodes.{first_node, kept_at, nodes_of, number_of};
 ghost use Rattle.network.specs.Sources.{kept_count, kept_line, kept_weight, sources_with, stop_count, walk_ticks, zone_count};
-ghost use Rattle.network.specs.StopWalks.{walks_from, walks_of};
-ghost use Rattle.network.specs.Towns.{HasNode, HasPlace, HasWay, IsTown};
+ghost use Rattle.network.specs.StopWalks.{walks_by_stop, walks_from};
+ghost use Rattle.network.specs.Towns.{HasNode, HasPlace, HasSegment, IsTown};
 ghost use Rattle.scenarios.specs.Scenarios.{is_closed};
 
 use crate::kinds::{KeptLine, NodeKind};
@@ -114,7 +114,7 @@ impl<'a> Town<'a> {
 
     /// How many walks there are.
     pub(crate) fn walk_count(&self) -> usize
-        ensures value { result ≡ sum_by (λ walks. length walks) (walks_of self.now.feed self.now.walks) }
+        ensures value { result ≡ sum_by (λ walks. length walks) (walks_by_stop self.now.feed self.now.walks) }
     {
         self.stop_walks.count()
     }
@@ -169,8 +169,8 @@ impl<'a> Town<'a> {
         self.kept_at(line).weight
     }
 
-    /// How many ways a kept line has, each from a place to the next.
-    pub(crate) fn ways(&self, line: u32) -> u32
+    /// How many segments a kept line has, each from a place to the next.
+    pub(crate) fn segments(&self, line: u32) -> u32
         requires line { line < kept_count self.now }
         ensures value { result + 1 ≡ length (kept_line self.now line).places }
         ensures within { 2 * result ≤ NODE_LIMIT }
@@ -181,10 +181,10 @@ impl<'a> Town<'a> {
 
     /// The place of a kept line that follows a place.
     pub(crate) fn next(&self, line: u32, place: u32) -> u32
-        requires way { HasWay self.now line place }
+        requires segment { HasSegment self.now line place }
         ensures value { result ≡ place + 1 }
     {
-        let _ways = self.ways(line);
+        let _segments = self.segments(line);
         place + 1
     }
 

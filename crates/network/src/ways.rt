@@ -24,7 +24,7 @@ pub(crate) enum Ruling {
     /// The seconds by a row of the walks file.
     Listed(u64),
     /// The seconds by a row of transfers.txt, or by a station.
-    Given(u64),
+    Allowed(u64),
     /// A row of transfers.txt bars it.
     Barred,
 }
@@ -35,7 +35,7 @@ impl Ruling {
         ensures value { result ≡ seconds_by self }
     {
         match self {
-            Ruling::Listed(seconds) | Ruling::Given(seconds) => Some(seconds),
+            Ruling::Listed(seconds) | Ruling::Allowed(seconds) => Some(seconds),
             Ruling::Barred => None,
         }
     }
@@ -104,7 +104,7 @@ fn push_stations(ways: &mut Vec<Way>, feed: &Feed, stations: &Groups) -> Result<
     let count = feed.stops().len();
     for stop in 0..count {
         let tos = neighbours(feed, stations, stop as u32);
-        push_to(ways, stop as u32, tos, Ruling::Given(STATION_SECONDS))?;
+        push_to(ways, stop as u32, tos, Ruling::Allowed(STATION_SECONDS))?;
     }
     Ok(())
 }
@@ -145,7 +145,7 @@ fn ruling_of(row: &Transfer) -> Ruling
     if row.barred {
         Ruling::Barred
     } else {
-        Ruling::Given(row.seconds)
+        Ruling::Allowed(row.seconds)
     }
 }
 

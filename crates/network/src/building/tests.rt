@@ -6,6 +6,9 @@ ghost use Rattle.demand.specs.declared.limits.TheConstants.{ZONE_LIMIT};
 ghost use Rattle.headways.specs.Laws.{IsLineOf};
 ghost use Rattle.scenarios.specs.Feeds.{IsOfFeed};
 
+mod edits;
+mod stations;
+
 use super::*;
 use crate::kinds::ArcKind;
 use feed_reader::Files;
@@ -41,20 +44,31 @@ t1,06:00:00,22:00:00,600
 t2,06:00:00,22:00:00,900
 ";
 
+const TRANSFERS: &str = "from_stop_id,to_stop_id,transfer_type\n";
+
 const ZONES: &str = "zone_id,stop_id,walk_secs\nX,A,60\nY,B,30\n";
+
+const NO_EDITS: &str = "edit,target,value\n";
 
 // Half of a headway of an hour: 10000 * 50 * 3600.
 const K: u64 = 1_800_000_000;
 
-// The feed of the files.
-fn feed_of(alloc: Global) -> Result<Feed, Fail> {
+// The feed of two trips with these files.
+fn feed_of(
+    alloc: Global,
+    stops: &str,
+    calls: &str,
+    bands: &str,
+    transfers: &str,
+) -> Result<Feed, Fail> {
     let mut files = Files::none();
-    put(alloc, &mut files, 0, STOPS)?;
+    put(alloc, &mut files, 0, stops)?;
     put(alloc, &mut files, 1, ROUTES)?;
     put(alloc, &mut files, 2, CALENDAR)?;
     put(alloc, &mut files, 4, TRIPS)?;
-    put(alloc, &mut files, 5, CALLS)?;
-    put(alloc, &mut files, 6, BANDS)?;
+    put(alloc, &mut files, 5, calls)?;
+    put(alloc, &mut files, 6, bands)?;
+    put(alloc, &mut files, 7, transfers)?;
     Feed::read(alloc, &files).map_err(|_| "a feed".into())
 }
 
@@ -77,12 +91,12 @@ fn lines_of(alloc: Global, feed: &Feed) -> Result<Lines, Fail>
 }
 
 // The zones of the table.
-fn zones_of(alloc: Global, feed: &Feed) -> Result<Zones, Fail>
+fn zones_of(alloc: Global, rows: &str, feed: &Feed) -> Result<Zones, Fail>
     ensures few { IfOk result (λ zones. length zones.names ≤ ZONE_LIMIT) }
     ensures links { IfOk result (λ zones.
         All (IsLinkAmong (length zones.names) (length feed.now.stops)) zones.links) }
 {
-    Zones::read(alloc, ZONES.as_bytes(), feed).map_err(|_| "zones".into())
+    Zones::read(alloc, rows.as_bytes(), feed).map_err(|_| "zones".into())
 }
 
 // The scenario of rows.
@@ -100,17 +114,21 @@ fn no_walks(alloc: Global, feed: &Feed) -> Walks
     Walks::none(alloc)
 }
 
-// The city in a scenario of these rows.
-fn city_in(alloc: Global, rows: &str) -> Result<CityNet, Fail> {
-    let feed = feed_of(alloc)?;
-    let lines = lines_of(alloc, &feed)?;
-    let zones = zones_of(alloc, &feed)?;
-    let scenario = scenario_of(alloc, rows, &feed)?;
+// What becomes of a feed with these zones in a scenario of these rows.
+fn built(
+    alloc: Global,
+    feed: &Feed,
+    zones: &str,
+    rows: &str,
+) -> Result<Result<CityNet, BuildFault>, Fail> {
+    let lines = lines_of(alloc, feed)?;
+    let zones = zones_of(alloc, zones, feed)?;
+    let scenario = scenario_of(alloc, rows, feed)?;
     let fare = TimeFare::new(&scenario, |route: u32, layer: Layer| {
         scenario.ticks(route, layer)
     });
-    let walks = no_walks(alloc, &feed);
-    build(alloc, &feed, &lines, &zones, &walks, &scenario, &fare, K).map_err(|_| "a city".into())
+    let walks = no_walks(alloc, feed);
+    Ok(build(alloc, feed, &lines, &zones, &walks, &scenario, &fare, K))
 }
 
 // An arc: its tail, its head, its cost, its weight, and what it stands for.
@@ -143,70 +161,15 @@ fn has_arcs(city: &CityNet, arcs: &[Shown]) -> bool {
     true
 }
 
-// Zones X and Y are the nodes 0 to 3, A 4 and 5, B 6 and 7, the lines 8 and 9, 10 and 11.
-#[test]
-fn a_city_has_the_nodes_and_arcs_of_its_parts(rt: HostRuntime) -> Result<(), Fail> {
-    let city = city_in(rt.alloc(), "edit,target,value\n")?;
-    let arcs = [
-        (0, 4, 60_000, None, ArcKind::Access),
-        (1, 6, 30_000, None, ArcKind::Access),
-        (4, 2, 60_000, None, ArcKind::Egress),
-        (4, 8, 1, Some(6_000), ArcKind::BoardFirst),
-        (4, 10, 1, Some(4_000), ArcKind::BoardFirst),
-        (5, 2, 60_000, None, ArcKind::Egress),
-        (5, 8, 1, Some(6_000), ArcKind::BoardLater),
-        (5, 10, 1, Some(4_000), ArcKind::BoardLater),
-        (6, 3, 30_000, None, ArcKind::Egress),
-        (7, 3, 30_000, None, ArcKind::Egress),
-        (8, 9, 600_000, None, ArcKind::Ride),
-        (9, 7, 1, None, ArcKind::Alight),
-        (10, 11, 840_000, None, ArcKind::Ride),
-        (11, 7, 1, None, ArcKind::Alight),
-    ];
-    assert_eq!(rt; city.net().nodes(), 12);
-    assert!(rt; has_arcs(&city, &arcs));
-    Ok(())
-}
-
-// Nobody boards at A.
-#[test]
-fn nobody_boards_at_a_closed_stop(rt: HostRuntime) -> Result<(), Fail> {
-    let city = city_in(rt.alloc(), "edit,target,value\nclose,A,\n")?;
-    let arcs = [
-        (0, 4, 60_000, None, ArcKind::Access),
-        (1, 6, 30_000, None, ArcKind::Access),
-        (4, 2, 60_000, None, ArcKind::Egress),
-        (5, 2, 60_000, None, ArcKind::Egress),
-        (6, 3, 30_000, None, ArcKind::Egress),
-        (7, 3, 30_000, None, ArcKind::Egress),
-        (8, 9, 600_000, None, ArcKind::Ride),
-        (9, 7, 1, None, ArcKind::Alight),
-        (10, 11, 840_000, None, ArcKind::Ride),
-        (11, 7, 1, None, ArcKind::Alight),
-    ];
-    assert_eq!(rt; city.net().nodes(), 12);
-    assert!(rt; has_arcs(&city, &arcs));
-    Ok(())
-}
-
-// A dropped route, a fare of the other one with a transfer, and walks of twice the time.
-#[test]
-fn edits_change_lines_boardings_and_walks(rt: HostRuntime) -> Result<(), Fail> {
-    let rows = "edit,target,value\ndrop,R2,\nfare,R1,100\ntransfer,,30\npace,,200\n";
-    let city = city_in(rt.alloc(), rows)?;
-    let arcs = [
-        (0, 4, 120_000, None, ArcKind::Access),
-        (1, 6, 60_000, None, ArcKind::Access),
-        (4, 2, 120_000, None, ArcKind::Egress),
-        (4, 8, 100_000, Some(6_000), ArcKind::BoardFirst),
-        (5, 2, 120_000, None, ArcKind::Egress),
-        (5, 8, 130_000, Some(6_000), ArcKind::BoardLater),
-        (6, 3, 60_000, None, ArcKind::Egress),
-        (7, 3, 60_000, None, ArcKind::Egress),
-        (8, 9, 600_000, None, ArcKind::Ride),
-        (9, 7, 1, None, ArcKind::Alight),
-    ];
-    assert_eq!(rt; city.net().nodes(), 10);
-    assert!(rt; has_arcs(&city, &arcs));
-    Ok(())
+// Whether the nodes of a city stand for just these.
+fn has_nodes(city: &CityNet, nodes: &[NodeKind]) -> bool {
+    if city.net().nodes() as usize != nodes.len() {
+        return false;
+    }
+    for number in 0..city.net().nodes() {
+        if city.node_kind(number) != nodes[number as usize] {
+            return false;
+        }
+    }
+    true
 }

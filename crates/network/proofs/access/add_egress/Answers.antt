@@ -4,8 +4,8 @@ use Rattle.demand.specs.declared.tables.ZoneLink.{ZoneLink}
 use Rattle.network.specs.Arcs.{egress_arcs}
 use Rattle.network.proofs.AccessLemmas.{egress_at, egress_of, no_link}
 use Rattle.network.proofs.AddingLemmas.{adds-all, adds-more, adds-none, fails-more, fails-same}
+use Rattle.network.proofs.NodeLemmas.{has_stop}
 use Rattle.network.proofs.PlaceLemmas.{group-at, group-there, picked-parts, place-below}
-use Rattle.network.proofs.TownLemmas.{has-stop}
 use Rattle.network.proofs.access.add_egress.Goals as goal
 
 pub of-place-items-requires : goal.of-place-items-requires
@@ -20,7 +20,7 @@ bounds-links-place c =
     rw c.links-links.ensures.value (place-below (λ (link : ZoneLink). link.stop) c.args.stop c.args.town.now.zones.links c.of-place-items.result.now c.loop-place.place-index 0 items c.loop-place-test.true)
 
 pub walk-requires-clause-from : goal.walk-requires-clause-from
-walk-requires-clause-from c = rw c.node_in-from.ensures.value (has-stop c.args.town.now c.args.layer c.args.stop c.requires.stop)
+walk-requires-clause-from c = rw c.node_in-from.ensures.value (has_stop c.args.town.now c.args.layer c.args.stop c.requires.stop)
 
 pub walk-requires-clause-to : goal.walk-requires-clause-to
 walk-requires-clause-to c =

@@ -11,13 +11,13 @@ use Rattle.scenarios.specs.Scenarios.{ticks_of}
 
 pub bounds-fares-line : goal.bounds-fares-line
 bounds-fares-line c =
-    let way = c.requires.way in
-    fares-long c.args.town.now c.args.fares.now c.args.boarding.line c.requires.fares way.kept
+    let segment = c.requires.segment in
+    fares-long c.args.town.now c.args.fares.now c.args.boarding.line c.requires.fares segment.kept
 
 pub returns-clause-added : goal.returns-clause-added
 returns-clause-added c =
-    let way = c.requires.way in
-    let fare = fare-is c.args.town.now c.args.fares.now c.args.boarding.line c.args.layer c.requires.fares way.kept in
+    let segment = c.requires.segment in
+    let fare = fare-is c.args.town.now c.args.fares.now c.args.boarding.line c.args.layer c.requires.fares segment.kept in
     let cost : c.from-cost.result ≡ ticks_of c.args.town.now.scenario (kept_line c.args.town.now c.args.boarding.line).route c.args.layer = omega (arith, fare) in
     let tail = c.number-tail.ensures.value in
     let is = board-is c.args.town.now c.args.layer c.args.stop c.args.boarding.line c.args.boarding.place c.boarding_in.result c.number-tail.result c.number-head.result c.from-cost.result c.weight.result
@@ -26,8 +26,8 @@ returns-clause-added c =
 
 pub returns-clause-refused : goal.returns-clause-refused
 returns-clause-refused c =
-    let way = c.requires.way in
-    let fare = fare-is c.args.town.now c.args.fares.now c.args.boarding.line c.args.layer c.requires.fares way.kept in
+    let segment = c.requires.segment in
+    let fare = fare-is c.args.town.now c.args.fares.now c.args.boarding.line c.args.layer c.requires.fares segment.kept in
     let cost : c.from-cost.result ≡ ticks_of c.args.town.now.scenario (kept_line c.args.town.now c.args.boarding.line).route c.args.layer = omega (arith, fare) in
     let tail = c.number-tail.ensures.value in
     let is = board-is c.args.town.now c.args.layer c.args.stop c.args.boarding.line c.args.boarding.place c.boarding_in.result c.number-tail.result c.number-head.result c.from-cost.result c.weight.result

@@ -4,7 +4,7 @@ use Rattle.network.specs.declared.boardings.Boarding.{Boarding}
 use Rattle.network.specs.Arcs.{board_arcs}
 use Rattle.network.specs.Boardings.{boardings_in}
 use Rattle.network.proofs.AddingLemmas.{adds-all, adds-more, adds-none, fails-more, fails-same}
-use Rattle.network.proofs.BoardingLemmas.{board_at, board_of, boarding-way, boards-of, no_boarding}
+use Rattle.network.proofs.BoardingLemmas.{board_at, board_of, boarding-segment, boards-of, no_boarding}
 use Rattle.network.proofs.PlaceLemmas.{group-at, group-there, picked-parts, place-below}
 use Rattle.network.proofs.stops.add_boardings.Goals as goal
 
@@ -21,12 +21,12 @@ bounds-list-place c =
     let below = place-below (λ (boarding : Boarding). boarding.stop) c.args.stop (boardings_in c.args.town.now) c.of-place-items.result.now c.loop-place.place-index 0 items c.loop-place-test.true in
     rw list below
 
-pub add_boarding-requires-clause-way : goal.add_boarding-requires-clause-way
-add_boarding-requires-clause-way c =
+pub add_boarding-requires-clause-segment : goal.add_boarding-requires-clause-segment
+add_boarding-requires-clause-segment c =
     let items = c.of-place-items.ensures.value ∙ group-at c.args.boardings.now.by_stop _ _ c.args.stop c.requires.boardings.by_stop c.requires.stop in
     let list = c.as_slice-list.ensures.value ∙ c.requires.boardings.list in
     let below = place-below (λ (boarding : Boarding). boarding.stop) c.args.stop (boardings_in c.args.town.now) c.of-place-items.result.now c.loop-place.place-index 0 items c.loop-place-test.true in
-    boarding-way c.args.town.now c.as_slice-list.result.now (get_or c.of-place-items.result.now c.loop-place.place-index 0) no_boarding list below
+    boarding-segment c.args.town.now c.as_slice-list.result.now (get_or c.of-place-items.result.now c.loop-place.place-index 0) no_boarding list below
 
 pub add_boarding-requires-clause-fares : goal.add_boarding-requires-clause-fares
 add_boarding-requires-clause-fares c = c.as_slice-fares.ensures.value ∙ c.requires.boardings.fares

@@ -5,17 +5,17 @@ use Rattle.std.proofs.lemmas.Result.{err_from_is_err_and}
 use Rattle.network.specs.Arcs.{walk_arcs}
 use Rattle.network.proofs.AccessLemmas.{no_walk, walk_of, walk_step}
 use Rattle.network.proofs.AddingLemmas.{adds-all, adds-more, adds-none, fails-more, fails-same}
-use Rattle.network.proofs.TownLemmas.{has-stop}
+use Rattle.network.proofs.NodeLemmas.{has_stop}
 use Rattle.network.proofs.stops.add_walks.Goals as goal
 
 pub loop-walk-init : goal.loop-walk-init
 loop-walk-init c = adds-none c.args.arcs.now
 
 pub walk-requires-clause-from : goal.walk-requires-clause-from
-walk-requires-clause-from c = rw c.node_in-from.ensures.value (has-stop c.args.town.now c.args.layer c.args.stop c.requires.stop)
+walk-requires-clause-from c = rw c.node_in-from.ensures.value (has_stop c.args.town.now c.args.layer c.args.stop c.requires.stop)
 
 pub walk-requires-clause-to : goal.walk-requires-clause-to
-walk-requires-clause-to c = rw c.node_in-to.ensures.value (has-stop c.args.town.now c.args.layer _ (c.walks-walk-items.ensures.among c.loop-walk.walk-index no_walk c.loop-walk-test.true))
+walk-requires-clause-to c = rw c.node_in-to.ensures.value (has_stop c.args.town.now c.args.layer _ (c.walks-walk-items.ensures.among c.loop-walk.walk-index no_walk c.loop-walk-test.true))
 
 pub returns-in_err-walk-clause-refused : goal.returns-in_err-walk-clause-refused
 returns-in_err-walk-clause-refused c =

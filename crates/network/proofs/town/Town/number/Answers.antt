@@ -1,7 +1,7 @@
 use Rattle.std.proofs.Common.{arith}
-use Rattle.network.proofs.TownLemmas.{number-room}
+use Rattle.network.proofs.FitLemmas.{number_within}
 use Rattle.network.proofs.town.Town.number.Goals as goal
 
 pub overflow_cast-result : goal.overflow_cast-result
 overflow_cast-result c =
-    omega (arith, number-room c.args.self.now c.args.node c.requires.node)
+    omega (arith, number_within c.args.self.now c.args.node c.requires.node)

@@ -1,4 +1,4 @@
-use Rattle.network.proofs.building.tests.city_in.Goals as goal
+use Rattle.network.proofs.building.tests.built.Goals as goal
 
 pub build-requires-clause-sources : goal.build-requires-clause-sources
 build-requires-clause-sources c = record {

@@ -2,7 +2,7 @@ use Rattle.std.proofs.Common.{[], ◌∷◌}
 use Rattle.std.proofs.lemmas.Result.{on_ok_weaker}
 use Rattle.network.specs.Arcs.{ride_arc}
 use Rattle.network.proofs.AddingLemmas.{adds-then}
-use Rattle.network.proofs.riding.add_way.Goals as goal
+use Rattle.network.proofs.riding.add_segment.Goals as goal
 
 pub returns-clause-added : goal.returns-clause-added
 returns-clause-added c = on_ok_weaker c.add_alight.result (λ last.

@@ -2,7 +2,7 @@ use Rattle.std.proofs.Common.{arith, rules}
 use Rattle.std.specs.Prelude.{◌≡◌, ◌+◌, length}
 use Rattle.network.specs.Sources.{kept_line}
 use Rattle.network.proofs.TownLemmas.{rides-few}
-use Rattle.network.proofs.town.Town.ways.Goals as goal
+use Rattle.network.proofs.town.Town.segments.Goals as goal
 
 pub overflow_cast-result : goal.overflow_cast-result
 overflow_cast-result c =
