@@ -3,14 +3,15 @@ use Rattle.std.proofs.Common.{◌≡◌, ℕ, ◌+◌, Bool, cond, List, length,
 use Rattle.std.specs.List.{sum_by, slice_get, slice_index, range_with_len}
 use Rattle.std.proofs.lemmas.Option.{get_or_from_slice_get}
 use Rattle.definitions.proofs.Sums.{sum_by-filter, sum_more}
-use Rattle.line_report.specs.Volumes.{kind_of, volume_where}
+use Rattle.network.specs.Cities.{arc_kind_of}
+use Rattle.line_report.specs.Volumes.{volume_where}
 use Rattle.network.specs.declared.kinds.ArcKind.{ArcKind}
 use Rattle.network.specs.declared.kinds.ArcKind.TheVariants as arc
 use Rattle.network.specs.Cities.{CityData}
 
 -- the volume of an arc, where what it stands for passes
 abbrev pub volume_at : CityData → (ArcKind → Bool) → List ℕ → ℕ → ℕ
-volume_at city test volumes number = cond (test (kind_of city number)) (slice_index volumes number) 0
+volume_at city test volumes number = cond (test (arc_kind_of city number)) (slice_index volumes number) 0
 
 -- one arc more
 pub one_more : (city : CityData) (test : ArcKind → Bool) (volumes : List ℕ) (number : ℕ) (kind : ArcKind) (counts : Bool) (total part : ℕ) →
@@ -29,4 +30,4 @@ pub all_arcs : (city : CityData) (test : ArcKind → Bool) (volumes : List ℕ) 
 all_arcs city test volumes end total at_end so_far =
     so_far
     ∙ ap (λ n. sum_by (volume_at city test volumes) (range_with_len 0 n)) at_end
-    ∙ sym (sum_by-filter (slice_index volumes) (λ number. test (kind_of city number)) (range_with_len 0 (length city.net.arcs)))
+    ∙ sym (sum_by-filter (slice_index volumes) (λ number. test (arc_kind_of city number)) (range_with_len 0 (length city.net.arcs)))

@@ -3,7 +3,8 @@ use Rattle.std.specs.Prelude.{ℕ, ◌-◌, ◌++◌, List, codes, length}
 use Rattle.definitions.specs.Decimal.{number_line}
 use Rattle.definitions.specs.Totals.{boarding_stops, longest_wait}
 use Rattle.line_report.specs.declared.counts.Counts.{Counts}
-use Rattle.line_report.specs.Volumes.{is_boarding, is_transfer, volume_where}
+use Rattle.network.specs.Kinds.{is_boarding_kind, is_transfer_kind}
+use Rattle.line_report.specs.Volumes.{volume_where}
 use Rattle.loading.specs.declared.totals.Totals.{Totals}
 use Rattle.network.specs.Cities.{CityData}
 
@@ -56,5 +57,5 @@ summary_text city totals counts =
     ++ row_lines counts
     ++ demand_lines counts
     ++ size_lines (boarding_stops city.net) (longest_wait city.net) totals
-    ++ boarding_lines (volume_where city is_boarding totals.volumes) (volume_where city is_transfer totals.volumes)
+    ++ boarding_lines (volume_where city is_boarding_kind totals.volumes) (volume_where city is_transfer_kind totals.volumes)
     ++ cost_lines totals

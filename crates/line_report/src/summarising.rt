@@ -171,3 +171,6 @@ fn push_costs(alloc: Global, text: &mut String, totals: &Totals) -> Result<(), A
     push_line(alloc, text, "slack", totals.slack)?;
     Ok(())
 }
+
+#[cfg(test)]
+mod tests;

@@ -1,8 +1,8 @@
 //! Sums of volumes by what arcs stand for.
 
 ghost use Rattle.std.specs.Prelude.{◌≡◌, ◌≤◌, Bool, length, if◌then◌else◌};
-ghost use Rattle.line_report.specs.Volumes as words;
 ghost use Rattle.line_report.specs.Volumes.{volume_where};
+ghost use Rattle.network.specs.Kinds.{is_boarding_kind, is_transfer_kind};
 
 use network::{ArcKind, CityNet};
 
@@ -10,7 +10,7 @@ use network::{ArcKind, CityNet};
 #[tactic(auto, using(definitions::proofs::Sums::sum_more))]
 pub(crate) fn boardings(city: &CityNet, volumes: &[u64]) -> u128
     requires volumes { length volumes.now ≡ length city.now.net.arcs }
-    ensures value { result ≡ volume_where city.now words.is_boarding volumes.now }
+    ensures value { result ≡ volume_where city.now is_boarding_kind volumes.now }
 {
     let mut total = 0u128;
     for arc in 0..city.net().arcs() {
@@ -23,7 +23,7 @@ pub(crate) fn boardings(city: &CityNet, volumes: &[u64]) -> u128
 #[tactic(auto, using(definitions::proofs::Sums::sum_more))]
 pub(crate) fn transfers(city: &CityNet, volumes: &[u64]) -> u128
     requires volumes { length volumes.now ≡ length city.now.net.arcs }
-    ensures value { result ≡ volume_where city.now words.is_transfer volumes.now }
+    ensures value { result ≡ volume_where city.now is_transfer_kind volumes.now }
 {
     let mut total = 0u128;
     for arc in 0..city.net().arcs() {
@@ -34,14 +34,14 @@ pub(crate) fn transfers(city: &CityNet, volumes: &[u64]) -> u128
 
 // Whether an arc is a boarding.
 fn boards(kind: ArcKind) -> bool
-    ensures value { result ≡ words.is_boarding kind }
+    ensures value { result ≡ is_boarding_kind kind }
 {
     matches!(kind, ArcKind::BoardFirst | ArcKind::BoardLater)
 }
 
 // Whether an arc is a boarding after another one.
 fn changes(kind: ArcKind) -> bool
-    ensures value { result ≡ words.is_transfer kind }
+    ensures value { result ≡ is_transfer_kind kind }
 {
     matches!(kind, ArcKind::BoardLater)
 }

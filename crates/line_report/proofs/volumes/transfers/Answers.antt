@@ -1,11 +1,11 @@
 use Rattle.std.proofs.Common.{◌≡◌, ◌∙◌, ap, arith, length}
-use Rattle.line_report.specs.Volumes.{is_transfer}
+use Rattle.network.specs.Kinds.{is_transfer_kind}
 use Rattle.line_report.proofs.VolumeLemmas.{all_arcs, one_more}
 use Rattle.line_report.proofs.volumes.transfers.Goals as goal
 
 pub loop-arc-preserved : goal.loop-arc-preserved
 loop-arc-preserved c = record {
-  value = one_more c.args.city.now is_transfer c.args.volumes.now c.loop-arc.arc c.arc_kind.result c.changes.result c.loop-arc.total c.volume_if-total.result
+  value = one_more c.args.city.now is_transfer_kind c.args.volumes.now c.loop-arc.arc c.arc_kind.result c.changes.result c.loop-arc.total c.volume_if-total.result
       c.arc_kind.ensures.value c.changes.ensures.value c.volume_if-total.ensures.value c.loop-arc.invariant.value;
   within = omega arith;
 }
@@ -14,6 +14,6 @@ pub returns : goal.returns
 returns c = record {
   value =
       let last : c.loop-arc.arc ≡ c.arcs-arc-end.result = omega arith in
-      all_arcs c.args.city.now is_transfer c.args.volumes.now c.loop-arc.arc c.loop-arc.total
+      all_arcs c.args.city.now is_transfer_kind c.args.volumes.now c.loop-arc.arc c.loop-arc.total
       (last ∙ c.arcs-arc-end.ensures.value ∙ ap (λ net. length net.arcs) c.net.ensures.value) c.loop-arc.invariant.value;
 }
