@@ -25,15 +25,15 @@ use Rattle.definitions.proofs.VolumeLemmas.{conserves, out_is}
 use Rattle.demand.specs.declared.tables.Pair.{Pair}
 use Rattle.network.specs.Cities.{CityData}
 use Rattle.loading.specs.declared.totals.Totals.{Totals}
-use Rattle.assign.specs.Assignments.{IsAssignment, IsShownAssignment, bound_of, cost_of, units_of, volume_of}
+use Rattle.assign.specs.Assignments.{IsAssignment, IsShownAssignment, bound_of_visits, cost_of_visits, units_of_visits, volume_of}
 use Rattle.assign.specs.Partway.{IsAssignedBelow}
-use Rattle.assign.specs.Sums.{AreTotals, AreWithin}
+use Rattle.assign.specs.Sums.{AreTotalsOfSums, AreWithin}
 use Rattle.assign.specs.declared.sums.Sums.{Sums}
-use Rattle.assign.specs.Bounds.{Flows, IsPlanTo, IsWithinBoardings, NoPlansAreCheaper, boardings_at, boardings_of, cost_of_plans, waiting_nodes, waiting_places}
+use Rattle.assign.specs.Bounds.{Flows, IsPlanTo, IsWithinBoardings, NoPlansAreCheaper, units_boarding_at, units_boarding, cost_of_plans, waiting_nodes, waiting_places}
 use Rattle.assign.specs.Visits.{IsVisitOf, Visit, destinations_of}
 
 -- a plan to a zone costs no less than the bound of its visit
-plan_within : (city : CityData) (pairs : List Pair) (scale zone : ℕ) (visit : Visit) (plan : Flows) → IsVisitOf city pairs zone visit → IsPlanTo city pairs scale zone plan →
+pub plan_within : (city : CityData) (pairs : List Pair) (scale zone : ℕ) (visit : Visit) (plan : Flows) → IsVisitOf city pairs zone visit → IsPlanTo city pairs scale zone plan →
     scale * bound_of_labels visit.demand visit.labels ≤ cost_of_plan city.net plan.flows plan.waits
 plan_within city pairs scale zone visit plan is plans =
     let loaded = is.loaded in
@@ -45,7 +45,7 @@ plan_within city pairs scale zone visit plan is plans =
 
 -- one plan for each zone costs no less than the bounds of all visits
 pub plans_within : (city : CityData) (pairs : List Pair) (scale : ℕ) (zones : List ℕ) (visits : List Visit) (plans : List Flows) →
-    AllZip (IsVisitOf city pairs) zones visits → AllZip (IsPlanTo city pairs scale) zones plans → scale * bound_of visits ≤ cost_of_plans city.net plans
+    AllZip (IsVisitOf city pairs) zones visits → AllZip (IsPlanTo city pairs scale) zones plans → scale * bound_of_visits visits ≤ cost_of_plans city.net plans
 plans_within city pairs scale [] [] [] are plan = omega arith
 plans_within city pairs scale [] (visit ∷ visits) plans are plan = absurd are
 plans_within city pairs scale [] [] (one ∷ plans) are plan = absurd plan
@@ -62,7 +62,7 @@ slack_sum stops more units longest count = omega arith
 
 -- all visits cost at most their bounds and the slack
 pub cost_within_slack : (city : CityData) (pairs : List Pair) (longest : ℕ) → IsEnoughForEach city.net longest → (zones : List ℕ) (visits : List Visit) → AllZip (IsVisitOf city pairs) zones visits →
-    cost_of city.net visits ≤ bound_of visits + slack_of (boarding_stops city.net) (units_of visits) longest (length visits)
+    cost_of_visits city.net visits ≤ bound_of_visits visits + slack_of (boarding_stops city.net) (units_of_visits visits) longest (length visits)
 cost_within_slack city pairs longest enough [] [] are = omega arith
 cost_within_slack city pairs longest enough [] (visit ∷ visits) are = absurd are
 cost_within_slack city pairs longest enough (zone ∷ zones) [] are = absurd are
@@ -70,7 +70,7 @@ cost_within_slack city pairs longest enough (zone ∷ zones) (visit ∷ visits) 
     let is : IsVisitOf city pairs zone visit = are.0 in
     let here = gap_within_slack city.net visit.destination is.reached visit.labels visit.demand visit.volumes visit.waits longest is.loaded enough in
     let rest = cost_within_slack city pairs longest enough zones visits are.1 in
-    let slack = slack_sum (boarding_stops city.net) (sum visit.demand) (units_of visits) longest (length visits) in
+    let slack = slack_sum (boarding_stops city.net) (sum visit.demand) (units_of_visits visits) longest (length visits) in
     let count : length (visit ∷ visits) ≡ length visits + 1 = omega arith in
     rw (
       sum_by-cons (λ (v : Visit). bound_of_labels v.demand v.labels) visit visits,
@@ -81,9 +81,9 @@ cost_within_slack city pairs longest enough (zone ∷ zones) (visit ∷ visits) 
 
 -- the totals of an assigned city
 pub totals_of : (city : CityData) (pairs : List Pair) (old new : Option (List Visit)) (sums : Sums) (totals : Totals) → IsAssignedBelow city pairs city.zones (length pairs) old new sums →
-    AreWithin city.net sums → AreTotals sums totals → IsShownAssignment city pairs old new totals
+    AreWithin city.net sums → AreTotalsOfSums sums totals → IsShownAssignment city pairs old new totals
 totals_of city pairs old new sums totals below within are =
-    let same : slack_of sums.stops sums.units sums.longest sums.destinations ≡ slack_of (boarding_stops city.net) (units_of below.visits) (longest_wait city.net) (length below.visits) =
+    let same : slack_of sums.stops sums.units sums.longest sums.destinations ≡ slack_of (boarding_stops city.net) (units_of_visits below.visits) (longest_wait city.net) (length below.visits) =
     rw (within.stops, within.longest, below.are_sums.units, below.are_sums.destinations) refl in (
       record {
         visits = below.visits;
@@ -129,7 +129,7 @@ away net destination reached labels node (Wait _ _) (waits far on slack) w = far
 
 -- where the choice is to wait, all units board
 all_board : (net : NetworkData) (destination : ℕ) (reached : List Bool) (labels demand volumes waited : List ℕ) → IsLoaded net destination reached labels demand volumes waited →
-    (node : ℕ) → node < net.nodes → is_to_wait (choice_at net destination reached labels node) ≡ true → boardings_at net volumes node ≡ units_at net demand volumes node
+    (node : ℕ) → node < net.nodes → is_to_wait (choice_at net destination reached labels node) ≡ true → units_boarding_at net volumes node ≡ units_at net demand volumes node
 all_board net destination reached labels demand volumes waited loaded node lt w =
     let units : ℕ = units_at net demand volumes node in
     let choice : Choice = choice_at net destination reached labels node in
@@ -144,7 +144,7 @@ all_board net destination reached labels demand volumes waited loaded node lt w 
 
 -- a node's part of the gap is that of the units that board there
 part_within : (net : NetworkData) (destination : ℕ) (reached : List Bool) (labels demand volumes waited : List ℕ) (longest : ℕ) → IsLoaded net destination reached labels demand volumes waited →
-    (node : ℕ) → node < net.nodes → gap_at net destination reached labels demand volumes longest node ≤ boardings_at net volumes node + 2 * longest * cond (nat_lt 0 (boardings_at net volumes node)) 1 0
+    (node : ℕ) → node < net.nodes → gap_at net destination reached labels demand volumes longest node ≤ units_boarding_at net volumes node + 2 * longest * cond (nat_lt 0 (units_boarding_at net volumes node)) 1 0
 part_within net destination reached labels demand volumes waited longest loaded node lt = elim (cases_Bool (is_to_wait (choice_at net destination reached labels node))) [
   | inl w ↦ rw (w, all_board net destination reached labels demand volumes waited loaded node lt w) (some (nat_lt 0 (units_at net demand volumes node)) (units_at net demand volumes node))
   | inr no_wait ↦ rw no_wait (omega arith)
@@ -155,10 +155,10 @@ part_within net destination reached labels demand volumes waited longest loaded 
     some false n = omega arith
 
 -- what boards at all nodes is what boards
-all_boardings : (net : NetworkData) (volumes : List ℕ) → IsWellFormed net → sum_by (boardings_at net volumes) (node_numbers net) ≡ boardings_of net volumes
+all_boardings : (net : NetworkData) (volumes : List ℕ) → IsWellFormed net → sum_by (units_boarding_at net volumes) (node_numbers net) ≡ units_boarding net volumes
 all_boardings net volumes sound =
     let boarded : ℕ → ℕ = λ a. cond (is_boarding net a) (get_or volumes a 0) 0 in
-    sum_by-same (boardings_at net volumes) (λ i. 1 * sum_by boarded (out_arcs net i)) (node_numbers net)
+    sum_by-same (units_boarding_at net volumes) (λ i. 1 * sum_by boarded (out_arcs net i)) (node_numbers net)
     (λ i. sum_by-filter (λ a. get_or volumes a 0) (is_boarding net) (out_arcs net i) ∙ omega arith)
     ∙ gathered net.nodes (length net.arcs) (tail_of net) (λ _. 1) boarded sound.tails
     ∙ sum_by-same (λ a. 1 * boarded a) boarded (arc_numbers net) (λ a. omega arith)
@@ -166,22 +166,22 @@ all_boardings net volumes sound =
 
 -- the cost of one visit
 visit_within : (net : NetworkData) (destination : ℕ) (reached : List Bool) (labels demand volumes waited : List ℕ) (longest : ℕ) → IsLoaded net destination reached labels demand volumes waited →
-    IsEnoughForEach net longest → cost_of_plan net volumes waited ≤ bound_of_labels demand labels + (boardings_of net volumes + 2 * longest * waiting_nodes net volumes)
+    IsEnoughForEach net longest → cost_of_plan net volumes waited ≤ bound_of_labels demand labels + (units_boarding net volumes + 2 * longest * waiting_nodes net volumes)
 visit_within net destination reached labels demand volumes waited longest loaded enough =
     let gap = gap_within_nodes net destination reached labels demand volumes waited longest loaded enough in
-    let waiting : ℕ → ℕ = λ i. cond (nat_lt 0 (boardings_at net volumes i)) 1 0 in
-    let all : sum_by (gap_at net destination reached labels demand volumes longest) (node_numbers net) ≤ sum_by (λ i. boardings_at net volumes i + 2 * longest * waiting i) (node_numbers net) =
-    range_le (gap_at net destination reached labels demand volumes longest) (λ i. boardings_at net volumes i + 2 * longest * waiting i) 0 net.nodes
+    let waiting : ℕ → ℕ = λ i. cond (nat_lt 0 (units_boarding_at net volumes i)) 1 0 in
+    let all : sum_by (gap_at net destination reached labels demand volumes longest) (node_numbers net) ≤ sum_by (λ i. units_boarding_at net volumes i + 2 * longest * waiting i) (node_numbers net) =
+    range_le (gap_at net destination reached labels demand volumes longest) (λ i. units_boarding_at net volumes i + 2 * longest * waiting i) 0 net.nodes
     (λ i low high. part_within net destination reached labels demand volumes waited longest loaded i (omega arith)) in
-    let split : sum_by (λ i. boardings_at net volumes i + 2 * longest * waiting i) (node_numbers net) ≡ boardings_of net volumes + 2 * longest * waiting_nodes net volumes =
-    sum_by-add (boardings_at net volumes) (λ i. 2 * longest * waiting i) (node_numbers net)
+    let split : sum_by (λ i. units_boarding_at net volumes i + 2 * longest * waiting i) (node_numbers net) ≡ units_boarding net volumes + 2 * longest * waiting_nodes net volumes =
+    sum_by-add (units_boarding_at net volumes) (λ i. 2 * longest * waiting i) (node_numbers net)
     ∙ ap (λ n. n + sum_by (λ i. 2 * longest * waiting i) (node_numbers net)) (all_boardings net volumes loaded.well_formed)
-    ∙ ap (λ n. boardings_of net volumes + n) (sym (sum_by-scale (2 * longest) waiting (node_numbers net))) in
+    ∙ ap (λ n. units_boarding net volumes + n) (sym (sum_by-scale (2 * longest) waiting (node_numbers net))) in
     omega arith
 
 -- the cost of all visits
 cost_within_boardings : (city : CityData) (pairs : List Pair) (longest : ℕ) → IsEnoughForEach city.net longest → (zones : List ℕ) (visits : List Visit) → AllZip (IsVisitOf city pairs) zones visits →
-    cost_of city.net visits ≤ bound_of visits + (sum_by (λ visit. boardings_of city.net visit.volumes) visits + 2 * longest * waiting_places city.net visits)
+    cost_of_visits city.net visits ≤ bound_of_visits visits + (sum_by (λ visit. units_boarding city.net visit.volumes) visits + 2 * longest * waiting_places city.net visits)
 cost_within_boardings city pairs longest enough [] [] are = omega arith
 cost_within_boardings city pairs longest enough [] (visit ∷ visits) are = absurd are
 cost_within_boardings city pairs longest enough (zone ∷ zones) [] are = absurd are
@@ -192,12 +192,12 @@ cost_within_boardings city pairs longest enough (zone ∷ zones) (visit ∷ visi
     rw (
       sum_by-cons (λ (v : Visit). bound_of_labels v.demand v.labels) visit visits,
       sum_by-cons (λ (v : Visit). cost_of_plan city.net v.volumes v.waits) visit visits,
-      sum_by-cons (λ (v : Visit). boardings_of city.net v.volumes) visit visits,
+      sum_by-cons (λ (v : Visit). units_boarding city.net v.volumes) visit visits,
       sum_by-cons (λ (v : Visit). waiting_nodes city.net v.volumes) visit visits,
     ) (omega (arith, here, rest))
 
 -- what boards in total is what boards in each visit
-boardings_total : (net : NetworkData) (visits : List Visit) → boardings_of net (map (volume_of visits) (arc_numbers net)) ≡ sum_by (λ visit. boardings_of net visit.volumes) visits
+boardings_total : (net : NetworkData) (visits : List Visit) → units_boarding net (map (volume_of visits) (arc_numbers net)) ≡ sum_by (λ visit. units_boarding net visit.volumes) visits
 boardings_total net visits =
     let boards : List ℕ = filter (is_boarding net) (arc_numbers net) in
     let total : List ℕ = map (volume_of visits) (arc_numbers net) in
@@ -210,12 +210,10 @@ boardings_total net visits =
 -- an assignment costs at most its bound, its boardings, and twice the longest wait for each place at which passengers wait
 pub within_boardings : (city : CityData) (pairs : List Pair) (totals : Totals) → IsEnoughForEach city.net (longest_wait city.net) → IsAssignment city pairs totals → IsWithinBoardings city pairs totals
 within_boardings city pairs totals enough is = record {
-  visits = is.visits;
-  are_visits = is.are_visits;
-  is_total = is.is_total;
+  assignment = is;
   within =
       let cost = cost_within_boardings city pairs (longest_wait city.net) enough (destinations_of city pairs) is.visits is.are_visits in
-      let boardings : boardings_of city.net totals.volumes ≡ sum_by (λ visit. boardings_of city.net visit.volumes) is.visits =
-      ap (boardings_of city.net) is.is_total.volumes ∙ boardings_total city.net is.visits in
+      let boardings : units_boarding city.net totals.volumes ≡ sum_by (λ visit. units_boarding city.net visit.volumes) is.visits =
+      ap (units_boarding city.net) is.is_total.volumes ∙ boardings_total city.net is.visits in
       rw (is.is_total.cost, is.is_total.bound, boardings) (omega (arith, cost));
 }

@@ -1,12 +1,9 @@
 -- The demand to a zone at each node, and that it can be carried there.
 use Rattle.std.proofs.Common.{◌≡◌, ℕ, ◌<◌, Bool, true, false, cond, List, length, get_or, refl, sym, ◌∙◌, ap, subst, arith, zero-add, inl, inr}
 use Rattle.std.specs.Bool.{nat_lt}
-use Rattle.std.proofs.lemmas.Bool.{cases_Bool, cases_lt, false≢true, lt-ltb, le-ltb}
+use Rattle.std.proofs.lemmas.Bool.{cases_lt, false≢true, lt-ltb, le-ltb}
 use Rattle.std.proofs.lemmas.List.FromFn.{fill_by_all, get_or-map-range_with_len, length-map-range_with_len}
-use Rattle.definitions.specs.Network.{NetworkData}
-use Rattle.definitions.specs.Reach.{IsReach, Reaches, is_reached}
-use Rattle.definitions.specs.Volumes.{IsCarried}
-use Rattle.loading.specs.Loads.{IsFirstUnreachable}
+use Rattle.definitions.specs.Reach.{Reaches}
 use Rattle.demand.specs.declared.tables.Pair.{Pair}
 use Rattle.demand.specs.Laws.{IsPairAmong}
 use Rattle.demand.specs.Pairs.{units_from_to}

@@ -1,6 +1,14 @@
+pub mod AssignmentLemmas
 pub mod BoundLemmas
 pub mod DemandLemmas
+pub mod JobFaultLemmas
+pub mod JobFeedLemmas
+pub mod JobLawLemmas
+pub mod JobLemmas
+pub mod MarkLemmas
 pub mod PairLemmas
+pub mod PlanLemmas
 pub mod ReachLemmas
 pub mod SumLemmas
+pub mod WayLemmas
 pub mod ZoneLemmas

@@ -1,13 +1,16 @@
 -- Pairs of one destination among pairs by destination.
 use Rattle.std.proofs.Common.{◌≡◌, ◌≢◌, ℕ, ◌+◌, ◌-◌, ◌<◌, ◌≤◌, ◌==◌, ◌&&◌, Bool, true, false, cond, List, length, take, get_or, refl, sym, ◌∙◌, ap, arith, add-zero, zero-add, zero, suc, inl, inr}
-use Rattle.std.specs.List.{filter, sum_by}
+use Rattle.std.specs.List.{All, filter, sum_by}
+use Rattle.std.proofs.lemmas.Bool.{cases_eq}
 use Rattle.std.proofs.lemmas.Bool.Decides.{eqb_tells}
 use Rattle.std.proofs.lemmas.List.{take_all}
 use Rattle.std.proofs.lemmas.List.Sums.{sum_by_more}
+use Rattle.definitions.specs.declared.limits.TheConstants.{UNIT_LIMIT}
 use Rattle.definitions.proofs.Sums.{sum_by-filter}
 use Rattle.demand.specs.declared.tables.Pair.{Pair}
+use Rattle.demand.specs.Laws.{AreInOrder, IsPairAmong}
 use Rattle.demand.specs.Pairs.{is_of, units_from_to}
-use Rattle.assign.specs.Conditions.{no_pair}
+use Rattle.assign.specs.Conditions.{AreOrdered, ArePairs, destination_at, no_pair, units_of_pairs}
 use Rattle.assign.specs.Spans.{PartsAt}
 
 -- the sum over those that pass, with one more
@@ -73,3 +76,17 @@ none_of pairs node zone never =
       | inr w ↦ rw w.0 refl
       | inl w ↦ not_of pair node zone (λ e. apart w.1 e)
     ]
+
+-- pairs in order stand by destination
+pub by_destination : (pairs : List Pair) → AreInOrder pairs → AreOrdered pairs
+by_destination pairs ordered place later rises inside = elim (cases_eq place later) [
+  | inl e ↦ (let same : destination_at pairs place ≡ destination_at pairs later = ap (destination_at pairs) e in omega arith)
+  | inr ne ↦ elim (ordered place later no_pair (omega arith) inside) [
+    | inl lower ↦ omega arith
+    | inr same ↦ (let e = same.0 in omega arith)
+  ]
+]
+
+-- pairs of the zones of a city, in order and with few units
+pub are_pairs : (zones : ℕ) (pairs : List Pair) → All (IsPairAmong zones) pairs → AreInOrder pairs → units_of_pairs pairs ≤ UNIT_LIMIT → ArePairs zones pairs
+are_pairs zones pairs among ordered within = record { among = among; ordered = by_destination pairs ordered; within = within }

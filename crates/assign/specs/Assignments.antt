@@ -15,35 +15,35 @@ abbrev pub AreVisitsOf : CityData → List Pair → List Visit → Type 0
 AreVisitsOf city pairs visits = AllZip (IsVisitOf city pairs) (destinations_of city pairs) visits
 
 -- the units of all visits
-abbrev pub units_of : List Visit → ℕ
-units_of visits = sum_by (λ visit. sum visit.demand) visits
+abbrev pub units_of_visits : List Visit → ℕ
+units_of_visits visits = sum_by (λ visit. sum visit.demand) visits
 
 -- the cost of all visits
-abbrev pub cost_of : NetworkData → List Visit → ℕ
-cost_of net visits = sum_by (λ visit. cost_of_plan net visit.volumes visit.waits) visits
+abbrev pub cost_of_visits : NetworkData → List Visit → ℕ
+cost_of_visits net visits = sum_by (λ visit. cost_of_plan net visit.volumes visit.waits) visits
 
 -- the bound of all visits
-abbrev pub bound_of : List Visit → ℕ
-bound_of visits = sum_by (λ visit. bound_of_labels visit.demand visit.labels) visits
+abbrev pub bound_of_visits : List Visit → ℕ
+bound_of_visits visits = sum_by (λ visit. bound_of_labels visit.demand visit.labels) visits
 
 -- the volume of an arc in all visits
 abbrev pub volume_of : List Visit → ℕ → ℕ
 volume_of visits arc = sum_by (λ visit. slice_index visit.volumes arc) visits
 
 -- the totals of visits: each sum is over all of them, and the slack is that of their units and their number
-pub record IsTotalOf (net : NetworkData) (visits : List Visit) (totals : Totals) : Type 0 where
-  pub units : totals.units ≡ units_of visits
+pub record AreTotalsOfVisits (net : NetworkData) (visits : List Visit) (totals : Totals) : Type 0 where
+  pub units : totals.units ≡ units_of_visits visits
   pub destinations : totals.destinations ≡ length visits
-  pub cost : totals.cost ≡ cost_of net visits
-  pub bound : totals.bound ≡ bound_of visits
-  pub slack : totals.slack ≡ slack_of (boarding_stops net) (units_of visits) (longest_wait net) (length visits)
+  pub cost : totals.cost ≡ cost_of_visits net visits
+  pub bound : totals.bound ≡ bound_of_visits visits
+  pub slack : totals.slack ≡ slack_of (boarding_stops net) (units_of_visits visits) (longest_wait net) (length visits)
   pub volumes : totals.volumes ≡ map (volume_of visits) (arc_numbers net)
 
 -- totals are those of the one assignment of a city
 pub record IsAssignment (city : CityData) (pairs : List Pair) (totals : Totals) : Type 0 where
   pub visits : List Visit
   pub are_visits : AreVisitsOf city pairs visits
-  pub is_total : IsTotalOf city.net visits totals
+  pub is_total : AreTotalsOfVisits city.net visits totals
 
 -- totals are those of the assignment of a city, and its visits were shown
 abbrev pub IsShownAssignment : CityData → List Pair → Option (List Visit) → Option (List Visit) → Totals → Type 0

@@ -8,7 +8,7 @@ use Rattle.definitions.specs.Totals.{longest_wait}
 use Rattle.demand.specs.declared.tables.Pair.{Pair}
 use Rattle.loading.specs.declared.totals.Totals.{Totals}
 use Rattle.network.specs.Cities.{CityData}
-use Rattle.assign.specs.Assignments.{AreVisitsOf, IsTotalOf}
+use Rattle.assign.specs.Assignments.{IsAssignment}
 use Rattle.assign.specs.Visits.{Visit, demand_to, destinations_of, goal_of}
 
 -- the flow of each arc and the wait at each node, to one destination
@@ -34,16 +34,16 @@ NoPlansAreCheaper city pairs bound =
     (scale : ℕ) (plans : List Flows) → ArePlans city pairs scale plans → scale * bound ≤ cost_of_plans city.net plans
 
 -- the units that board, where these are the volumes of the arcs
-abbrev pub boardings_of : NetworkData → List ℕ → ℕ
-boardings_of net volumes = sum_by (slice_index volumes) (filter (is_boarding net) (arc_numbers net))
+abbrev pub units_boarding : NetworkData → List ℕ → ℕ
+units_boarding net volumes = sum_by (slice_index volumes) (filter (is_boarding net) (arc_numbers net))
 
 -- the units that wait at a node, and board there
-abbrev pub boardings_at : NetworkData → List ℕ → ℕ → ℕ
-boardings_at net volumes node = sum_by (slice_index volumes) (boarding_arcs net node)
+abbrev pub units_boarding_at : NetworkData → List ℕ → ℕ → ℕ
+units_boarding_at net volumes node = sum_by (slice_index volumes) (boarding_arcs net node)
 
 -- at how many nodes passengers wait
 abbrev pub waiting_nodes : NetworkData → List ℕ → ℕ
-waiting_nodes net volumes = count_by (λ node. nat_lt 0 (boardings_at net volumes node)) (node_numbers net)
+waiting_nodes net volumes = count_by (λ node. nat_lt 0 (units_boarding_at net volumes node)) (node_numbers net)
 
 -- how many pairs of a destination and a node there are at which passengers to there wait
 abbrev pub waiting_places : NetworkData → List Visit → ℕ
@@ -51,7 +51,5 @@ waiting_places net visits = sum_by (λ visit. waiting_nodes net visit.volumes) v
 
 -- the cost exceeds the bound by at most the units that board, and twice the longest wait for each destination and node at which passengers wait
 pub record IsWithinBoardings (city : CityData) (pairs : List Pair) (totals : Totals) : Type 0 where
-  pub visits : List Visit
-  pub are_visits : AreVisitsOf city pairs visits
-  pub is_total : IsTotalOf city.net visits totals
-  pub within : totals.cost ≤ totals.bound + boardings_of city.net totals.volumes + 2 * longest_wait city.net * waiting_places city.net visits
+  pub assignment : IsAssignment city pairs totals
+  pub within : totals.cost ≤ totals.bound + units_boarding city.net totals.volumes + 2 * longest_wait city.net * waiting_places city.net assignment.visits

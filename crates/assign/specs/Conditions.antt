@@ -1,4 +1,4 @@
--- What the pairs of a demand have to keep to be assigned: they join zones of the city, and stand by destination, not falling.
+-- What an assignment needs of the pairs of its demand: they join zones of the city, and stand by destination, not falling.
 use Rattle.std.specs.Prelude.{ℕ, ◌<◌, ◌≤◌, List, All, length, slice_index_or, sum_by}
 use Rattle.definitions.specs.declared.limits.TheConstants.{UNIT_LIMIT}
 use Rattle.demand.specs.declared.tables.Pair.{Pair}

@@ -1,7 +1,16 @@
 pub mod Assignments
 pub mod Bounds
 pub mod Conditions
+pub mod JobFaults
+pub mod JobLaws
+pub mod JobSteps
+pub mod JobViews
+pub mod Jobs
+pub mod Marks
+pub mod PartFaults
 pub mod Partway
+pub mod Plans
+pub mod Printed
 pub mod Reached
 pub mod Rooms
 pub mod Spans

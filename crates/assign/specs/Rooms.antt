@@ -1,6 +1,6 @@
 -- Room for one destination after another.
-use Rattle.std.specs.Prelude.{◌≡◌, ℕ, ◌≤◌, All, Bool, List, length}
-use Rattle.definitions.specs.declared.limits.TheConstants.{LABEL_LIMIT, WAIT_LIMIT}
+use Rattle.std.specs.Prelude.{◌≡◌, ℕ, ◌<◌, ◌≤◌, All, Bool, List, length, sum}
+use Rattle.definitions.specs.declared.limits.TheConstants.{LABEL_LIMIT, UNIT_LIMIT, WAIT_LIMIT}
 use Rattle.definitions.specs.Gap.{IsLoaded}
 use Rattle.definitions.specs.Labels.{IsOrder}
 use Rattle.definitions.specs.Network.{NetworkData}
@@ -25,10 +25,13 @@ CanBeCarried net destination demand = (reached : List Bool) → IsReach net dest
 abbrev pub visit_in : ℕ → Room → Visit
 visit_in destination room = visit_of destination room.demand.items room.labels.labels room.loads.volumes room.loads.waits
 
--- the room holds the labels of a destination, and the volumes and waits of the demand to there
+-- the room holds the labels of a destination, and the volumes and waits of the demand to there, all within their limits
 pub record IsFilled (net : NetworkData) (destination : ℕ) (room : Room) : Type 0 where
+  pub there : destination < net.nodes
   pub reach : IsReach net destination room.labels.reached
   pub order : IsOrder room.labels.reached room.labels.labels room.labels.order
   pub loaded : IsLoaded net destination room.labels.reached room.labels.labels room.demand.items room.loads.volumes room.loads.waits
+  pub units_within : sum room.demand.items ≤ UNIT_LIMIT
   pub labels_within : All (λ label. label ≤ LABEL_LIMIT) room.labels.labels
+  pub volumes_within : All (λ volume. volume ≤ sum room.demand.items) room.loads.volumes
   pub waits_within : All (λ wait. wait ≤ WAIT_LIMIT) room.loads.waits

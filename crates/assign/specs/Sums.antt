@@ -7,16 +7,16 @@ use Rattle.definitions.specs.Network.{NetworkData}
 use Rattle.definitions.specs.Plan.{cost_of_plan}
 use Rattle.definitions.specs.Totals.{boarding_stops, longest_wait, slack_of}
 use Rattle.loading.specs.declared.totals.Totals.{Totals}
-use Rattle.assign.specs.Assignments.{bound_of, cost_of, units_of, volume_of}
+use Rattle.assign.specs.Assignments.{bound_of_visits, cost_of_visits, units_of_visits, volume_of}
 use Rattle.assign.specs.Visits.{Visit}
 use Rattle.assign.specs.declared.sums.Sums.{Sums}
 
 -- the sums are those of visits
 pub record AreSumsOf (net : NetworkData) (visits : List Visit) (sums : Sums) : Type 0 where
-  pub units : sums.units ≡ units_of visits
+  pub units : sums.units ≡ units_of_visits visits
   pub destinations : sums.destinations ≡ length visits
-  pub cost : sums.cost ≡ cost_of net visits
-  pub bound : sums.bound ≡ bound_of visits
+  pub cost : sums.cost ≡ cost_of_visits net visits
+  pub bound : sums.bound ≡ bound_of_visits visits
   pub volume_per_arc : length sums.volumes.items ≡ length net.arcs
   pub volumes : (arc : ℕ) → arc < length net.arcs → slice_index sums.volumes.items arc ≡ volume_of visits arc
 
@@ -42,7 +42,7 @@ pub record AreWithin (net : NetworkData) (sums : Sums) : Type 0 where
   pub volumes : (arc : ℕ) → arc < length net.arcs → slice_index sums.volumes.items arc ≤ sums.units
 
 -- totals are those of sums
-pub record AreTotals (sums : Sums) (totals : Totals) : Type 0 where
+pub record AreTotalsOfSums (sums : Sums) (totals : Totals) : Type 0 where
   pub units : totals.units ≡ sums.units
   pub destinations : totals.destinations ≡ sums.destinations
   pub cost : totals.cost ≡ sums.cost

@@ -1,12 +1,14 @@
 //! All destinations of a city, one after the other.
 
-ghost use Rattle.std.specs.Prelude.{◌≡◌, ◌≢◌, ◌+◌, ◌<◌, ◌≤◌, ℕ, [], IfErr, IfOk, IsTrue, OnErr, OnOk, length};
+ghost use Rattle.std.specs.Prelude.{◌≡◌, ◌≢◌, ◌+◌, ◌<◌, ◌≤◌, ℕ, [], All, IfErr, IfOk, IsTrue, OnErr, OnOk, length};
 ghost use Rattle.std.specs.List.{list_any};
 ghost use Rattle.definitions.specs.Causes.{Rose};
+ghost use Rattle.demand.specs.Laws.{IsPairAmong};
 ghost use Rattle.assign.specs.Assignments.{IsShownAssignment, StopsEarly};
 ghost use Rattle.assign.specs.Bounds.{IsWithinBoardings, NoPlansAreCheaper};
 ghost use Rattle.assign.specs.Conditions.{ArePairs};
 ghost use Rattle.assign.specs.Partway.{AreReady, IsAssignedBelow, IsZoneDone};
+ghost use Rattle.assign.specs.Plans.{HasPlans};
 ghost use Rattle.assign.specs.Reached.{AllPairsReach, IsFirstUnreached};
 ghost use Rattle.assign.specs.Rooms.{IsFilled, IsRoom, visit_in};
 ghost use Rattle.assign.specs.Spans.{IsSpanOf};
@@ -15,6 +17,7 @@ ghost use Rattle.assign.specs.Visits.{IsVisitOf, goal_of, leads_to};
 ghost use Rattle.assign.specs.declared.fault.AssignFault.TheVariants as fault;
 
 use crate::fault::AssignFault;
+use crate::marking::Marking;
 use crate::reaching::first_unreached;
 use crate::room::{Room, fill_for};
 use crate::spans::end_of;
@@ -138,11 +141,12 @@ pub fn assign<V: Visitor>(
     demand: &Demand,
     each: &mut V,
 ) -> Result<Totals, AssignFault>
-    requires pairs { ArePairs city.now.zones demand.now.pairs }
+    requires zones { All (IsPairAmong city.now.zones) demand.now.pairs }
 
     // What was assigned, and shown.
     ensures assigned { IfOk result (IsShownAssignment city.now demand.now.pairs (V.visits each.old) (V.visits each.new)) }
     ensures units { IfOk result (λ totals. totals.units ≡ demand.now.units) }
+    ensures volume_per_arc { IfOk result (λ totals. length totals.volumes ≡ length city.now.net.arcs) }
     ensures count { V.count each.old ≤ V.count each.new }
 
     // When each refusal comes.
@@ -154,16 +158,21 @@ pub fn assign<V: Visitor>(
         × StopsEarly city.now demand.now.pairs (V.visits each.old) (V.visits each.new) }
     ensures unvisited { IfErr result (λ found. found ≢ fault.VisitorFailed → each.new ≡ each.old) }
 
-    // No plan is cheaper than the bound, and the cost is near it.
+    // Each destination has a plan, no plans are cheaper than the bound, and the cost is near it.
+    ensures conserved { IfOk result (HasPlans city.now demand.now.pairs) }
     ensures no_plan_is_cheaper { IfOk result (λ totals. NoPlansAreCheaper city.now demand.now.pairs totals.bound) }
+    ensures bound_within_cost { IfOk result (λ totals. totals.bound ≤ totals.cost) }
     ensures gap_within_boardings { IfOk result (IsWithinBoardings city.now demand.now.pairs) }
     ensures gap_within_slack { IfOk result (λ totals. totals.cost ≤ totals.bound + totals.slack) }
 {
     let net = city.net();
     let pairs = demand.pairs();
+    // The units are within their limit.
+    let _units = demand.units();
+    let mut marking = Marking::new(alloc, net)?;
     let mut room = Room::new(alloc, net)?;
     let mut sums = Sums::new(alloc, net)?;
-    if let Some(pair) = first_unreached(city, pairs, &mut room.labels) {
+    if let Some(pair) = first_unreached(city, pairs, &mut marking) {
         return Err(AssignFault::Unreachable {
             origin: pair.origin,
             destination: pair.destination,

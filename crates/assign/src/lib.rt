@@ -3,12 +3,28 @@
 
 mod assigning;
 mod fault;
+mod job_fault;
+mod job_laws;
+mod job_parts;
+mod jobs;
+mod marking;
+mod preparing;
 mod reaching;
 mod room;
+mod running;
 mod spans;
 mod sums;
+mod tables;
+mod unshown;
 mod visitor;
 
 pub use assigning::assign;
 pub use fault::AssignFault;
+pub use job_fault::{JobFault, Limit};
+pub use job_laws::one_outcome;
+pub use job_parts::Job;
+pub use jobs::job;
 pub use visitor::Visitor;
+
+#[cfg(test)]
+mod tests;

@@ -2,29 +2,29 @@
 
 ghost use Rattle.std.specs.Prelude.{◌<◌, MatchOption, take};
 ghost use Rattle.definitions.specs.Reach.{IsReach};
-ghost use Rattle.label_setting.specs.Workspace.{IsRoomFor};
 ghost use Rattle.assign.specs.Conditions.{ArePairs};
+ghost use Rattle.assign.specs.Marks.{HasPlaces};
 ghost use Rattle.assign.specs.Reached.{AllPairsReach, IsFirstUnreached};
 ghost use Rattle.assign.specs.Spans.{IsSpanOf};
 ghost use Rattle.assign.specs.Visits.{goal_of};
 
+use crate::marking::Marking;
 use crate::spans::end_of;
 use demand::Pair;
-use label_setting::{Workspace, labels};
 use network::CityNet;
 
 /// The first pair whose origin does not reach its destination.
-pub fn first_unreached(city: &CityNet, pairs: &[Pair], workspace: &mut Workspace) -> Option<Pair>
+pub(crate) fn first_unreached(city: &CityNet, pairs: &[Pair], marking: &mut Marking) -> Option<Pair>
     requires pairs { ArePairs city.now.zones pairs.now }
-    requires room { IsRoomFor city.now.net workspace.old }
-    ensures room { IsRoomFor city.now.net workspace.new }
+    requires places { HasPlaces city.now.net marking.old }
+    ensures places { HasPlaces city.now.net marking.new }
     ensures first { MatchOption result (AllPairsReach city.now pairs.now)
         (λ pair. IsFirstUnreached city.now pairs.now pair.origin pair.destination) }
 {
     let mut place = 0;
     for zone in 0..city.zones() {
         let end = end_of(pairs, zone, place);
-        let found = unreached_in(city, pairs, zone, place, end, workspace);
+        let found = unreached_in(city, pairs, zone, place, end, marking);
         if found.is_some() {
             return found;
         }
@@ -40,22 +40,22 @@ fn unreached_in(
     zone: u32,
     from: usize,
     to: usize,
-    workspace: &mut Workspace,
+    marking: &mut Marking,
 ) -> Option<Pair>
     requires zone { zone < city.now.zones }
     requires pairs { ArePairs city.now.zones pairs.now }
     requires span { IsSpanOf pairs.now zone from to }
-    requires room { IsRoomFor city.now.net workspace.old }
+    requires places { HasPlaces city.now.net marking.old }
     requires before { AllPairsReach city.now (take from pairs.now) }
-    ensures room { IsRoomFor city.now.net workspace.new }
+    ensures places { HasPlaces city.now.net marking.new }
     ensures first { MatchOption result (AllPairsReach city.now (take to pairs.now))
         (λ pair. IsFirstUnreached city.now pairs.now pair.origin pair.destination) }
 {
     if from == to {
         return None;
     }
-    labels(city.net(), city.goal(zone), workspace);
-    unmarked_in(city, pairs, zone, from, to, workspace.reached())
+    marking.find(city.net(), city.goal(zone));
+    unmarked_in(city, pairs, zone, from, to, &marking.reached)
 }
 
 // The first of the pairs of a zone whose origin is not marked, where those before them reach.

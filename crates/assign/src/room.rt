@@ -18,7 +18,7 @@ use std::alloc::{AllocError, Global};
 
 /// The labels, the volumes and waits, and the demand of one destination.
 #[derive(Drop)]
-pub struct Room {
+pub(crate) struct Room {
     pub labels: Workspace,
     pub loads: Loads,
     pub demand: Vec<u64>,
@@ -39,7 +39,7 @@ impl Room {
 
 /// Fills the room for a zone, whose pairs begin at `from` and end at `to`, and gives the units to
 /// there.
-pub fn fill_for(
+pub(crate) fn fill_for(
     city: &CityNet,
     pairs: &[Pair],
     zone: u32,

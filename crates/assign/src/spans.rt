@@ -9,7 +9,7 @@ ghost use Rattle.assign.specs.Spans.{IsSpanOf, PartsAt};
 use demand::Pair;
 
 /// The end of the pairs that lead to a zone, which begin at `from`.
-pub fn end_of(pairs: &[Pair], zone: u32, from: usize) -> usize
+pub(crate) fn end_of(pairs: &[Pair], zone: u32, from: usize) -> usize
     requires ordered { AreOrdered pairs.now }
     requires starts { PartsAt pairs.now zone from }
     ensures span { IsSpanOf pairs.now zone from result }
@@ -23,7 +23,7 @@ pub fn end_of(pairs: &[Pair], zone: u32, from: usize) -> usize
 
 /// Writes the units of the pairs of a zone at their origins and 0 at all other nodes, and gives
 /// the sum.
-pub fn fill(pairs: &[Pair], zone: u32, from: usize, to: usize, demand: &mut [u64]) -> u64
+pub(crate) fn fill(pairs: &[Pair], zone: u32, from: usize, to: usize, demand: &mut [u64]) -> u64
     requires span { IsSpanOf pairs.now zone from to }
     requires origins { All (λ pair. pair.origin < length demand.old) pairs.now }
     requires within { units_of_pairs pairs.now ≤ UNIT_LIMIT }

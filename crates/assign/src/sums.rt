@@ -3,7 +3,7 @@
 ghost use Rattle.std.specs.Prelude.{◌≡◌, ◌+◌, ◌<◌, ◌≤◌, [], EachIndex, IfOk, length, slice_index, sum};
 ghost use Rattle.definitions.specs.declared.limits.TheConstants.{K_LIMIT, NODE_LIMIT, UNIT_LIMIT};
 ghost use Rattle.assign.specs.Rooms.{IsFilled, IsRoom, visit_in};
-ghost use Rattle.assign.specs.Sums.{AddsVisit, AreSumsOf, AreTotals, AreWithin};
+ghost use Rattle.assign.specs.Sums.{AddsVisit, AreSumsOf, AreTotalsOfSums, AreWithin};
 
 use crate::room::Room;
 use loading::{Totals, Volumes};
@@ -12,7 +12,7 @@ use std::alloc::{AllocError, Global};
 
 /// What is added up over the destinations, and what the slack needs of the network.
 #[derive(Drop)]
-pub struct Sums {
+pub(crate) struct Sums {
     pub stops: u32,
     pub longest: u64,
     pub units: u64,
@@ -42,7 +42,7 @@ impl Sums {
     /// The totals of these sums.
     pub fn totals(self) -> Totals
         requires longest { self.longest ≤ K_LIMIT }
-        ensures totals { AreTotals self result }
+        ensures totals { AreTotalsOfSums self result }
     {
         let slack = slack(self.stops, self.units, self.longest, self.destinations);
         Totals {
@@ -57,7 +57,7 @@ impl Sums {
 }
 
 /// Adds what the room holds of a destination, to which so many units go.
-pub fn add(net: &Network, destination: u32, units: u64, room: &Room, sums: &mut Sums)
+pub(crate) fn add(net: &Network, destination: u32, units: u64, room: &Room, sums: &mut Sums)
     requires room { IsRoom net.now room.now }
     requires filled { IsFilled net.now destination room.now }
     requires units { sum room.now.demand.items ≡ units }

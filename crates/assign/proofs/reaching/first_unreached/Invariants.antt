@@ -1,5 +1,5 @@
 use Rattle.std.proofs.Common.{take}
-use Rattle.label_setting.specs.Workspace.{IsRoomFor}
+use Rattle.assign.specs.Marks.{HasPlaces}
 use Rattle.assign.specs.Reached.{AllPairsReach}
 use Rattle.assign.specs.Spans.{PartsAt}
 use Rattle.assign.proofs.reaching.first_unreached.Given as goal
@@ -9,5 +9,5 @@ abbrev pub invariant-loop-zone : goal.invariant-loop-zone
 invariant-loop-zone l = record {
   parts : PartsAt l.pairs l.zone l.place;
   reach : AllPairsReach l.city (take l.place l.pairs);
-  room : IsRoomFor l.city.net l.workspace;
+  places : HasPlaces l.city.net l.marking;
 }
