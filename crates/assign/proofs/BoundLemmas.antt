@@ -208,12 +208,10 @@ boardings_total net visits =
     ∙ sum_by-swap (λ a (v : Visit). get_or v.volumes a 0) boards visits
 
 -- an assignment costs at most its bound, its boardings, and twice the longest wait for each place at which passengers wait
-pub within_boardings : (city : CityData) (pairs : List Pair) (totals : Totals) → IsEnoughForEach city.net (longest_wait city.net) → IsAssignment city pairs totals → IsWithinBoardings city pairs totals
-within_boardings city pairs totals enough is = record {
-  assignment = is;
-  within =
-      let cost = cost_within_boardings city pairs (longest_wait city.net) enough (destinations_of city pairs) is.visits is.are_visits in
-      let boardings : units_boarding city.net totals.volumes ≡ sum_by (λ visit. units_boarding city.net visit.volumes) is.visits =
-      ap (units_boarding city.net) is.is_total.volumes ∙ boardings_total city.net is.visits in
-      rw (is.is_total.cost, is.is_total.bound, boardings) (omega (arith, cost));
-}
+pub within_boardings : (city : CityData) (pairs : List Pair) (totals : Totals) → IsEnoughForEach city.net (longest_wait city.net) → (assignment : IsAssignment city pairs totals) →
+    IsWithinBoardings city.net totals assignment.visits
+within_boardings city pairs totals enough is =
+    let cost = cost_within_boardings city pairs (longest_wait city.net) enough (destinations_of city pairs) is.visits is.are_visits in
+    let boardings : units_boarding city.net totals.volumes ≡ sum_by (λ visit. units_boarding city.net visit.volumes) is.visits =
+    ap (units_boarding city.net) is.is_total.volumes ∙ boardings_total city.net is.visits in
+    rw (is.is_total.cost, is.is_total.bound, boardings) (omega (arith, cost))

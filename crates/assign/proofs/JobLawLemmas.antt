@@ -24,7 +24,7 @@ use Rattle.assign.proofs.JobFeedLemmas.{one_feed}
 -- a city with counts has one summary at most
 one_text : (city : CityData) (pairs : List Pair) (counts : Counts) (bytes others : List ℕ) → IsSummaryWith city pairs counts bytes → IsSummaryWith city pairs counts others → bytes ≡ others
 one_text city pairs counts bytes others h g =
-    let totals : h.totals ≡ g.totals = one_assignment city pairs h.totals g.totals h.are_totals.assigned g.are_totals.assigned in
+    let totals : h.totals ≡ g.totals = one_assignment city pairs h.totals g.totals h.assigned g.assigned in
     h.is_text ∙ ap (λ (some : Totals). summary_text city some counts) totals ∙ sym g.is_text
 
 -- a job has one summary at most
@@ -37,7 +37,7 @@ one_summary job bytes others h g =
 
 -- a job with a summary is faultless
 pub summary_is_faultless : SummaryIsFaultless
-summary_is_faultless job bytes h = record { feed = h.feed; has_city = h.has_city; reach = h.is_summary.are_totals.all_reach }
+summary_is_faultless job bytes h = record { feed = h.feed; has_city = h.has_city; reach = h.is_summary.all_reach }
 
 -- of no faults none is the first, handed on or not
 none_first : (faults : List JobFault) (answer : JobFault) → faults ≡ [] → slice_get faults 0 ≡ Some answer → ⊥

@@ -1,5 +1,5 @@
 -- A job from what was prepared of it.
-use Rattle.std.proofs.Common.{◌≡◌, ◌≢◌, ℕ, ◌<◌, List, Option, Some, ap, get_or, subst}
+use Rattle.std.proofs.Common.{◌≡◌, ◌≢◌, ℕ, ◌<◌, List, Option, Some, ◌∙◌, ap, get_or, length, refl, subst, take}
 use Rattle.std.specs.Prelude.{All, slice_get}
 use Rattle.std.proofs.lemmas.Option.{get_or_from_slice_get, slice_get_within}
 use Rattle.demand.specs.Demands.{DemandData}
@@ -7,12 +7,18 @@ use Rattle.demand.specs.Laws.{IsPairAmong}
 use Rattle.demand.specs.Zones.{ZonesData}
 use Rattle.demand.specs.declared.tables.Pair.{Pair}
 use Rattle.feed_reader.specs.Feed.{FeedData}
+use Rattle.desk_io.specs.Told.{Appends}
+use Rattle.line_report.specs.Summary.{summary_text}
 use Rattle.line_report.specs.declared.counts.Counts.{Counts}
+use Rattle.line_report.specs.declared.fault.ReportFault.{ReportFault}
+use Rattle.line_report.specs.declared.fault.ReportFault.TheVariants as report_fault
+use Rattle.loading.specs.declared.totals.Totals.{Totals}
 use Rattle.network.specs.Cities.{CityData}
 use Rattle.assign.specs.JobFaults.{HasCause, HasUnreachedPair, IsFaultless, IsUnreachedPair}
-use Rattle.assign.specs.JobSteps.{IsPreparedOf, IsPreparedOver, IsSummaryFrom, IsUnassigned, IsUnprinted}
+use Rattle.assign.specs.JobSteps.{IsPreparedOf, IsPreparedOver, IsSummaryFrom, IsUnassigned, IsUnprinted, PrintsTotalsFrom}
 use Rattle.assign.specs.Jobs.{JobData, counts_in, pairs_in, zones_in}
-use Rattle.assign.specs.Printed.{IsSummaryOf, IsSummaryWith, AppendsSome, AppendsPart}
+use Rattle.assign.specs.Printed.{AreTotalsOfCity, IsSummaryOf, IsSummaryWith, AppendsSome, AppendsPart, PrintsTotals}
+use Rattle.assign.specs.PartFaults.{from_report}
 use Rattle.assign.specs.Reached.{AllPairsReach, IsFirstUnreached}
 use Rattle.assign.specs.declared.job_fault.JobFault.{JobFault}
 use Rattle.assign.specs.declared.job_fault.JobFault.TheVariants as fault
@@ -21,6 +27,22 @@ use Rattle.assign.specs.declared.preparing.Prepared.{Prepared}
 -- the pairs of what was prepared
 pairs_of : (job : JobData) (feed : FeedData) (prepared : Prepared) → IsPreparedOver job feed prepared → prepared.tables.demand.pairs ≡ pairs_in job feed
 pairs_of job feed prepared over = ap (λ (demand : DemandData). demand.pairs) over.demand
+
+-- a fault of a report that is one of the sink of its job is one of the sink
+pub report_sent : (e : ReportFault) (sent : ℕ) → from_report e ≡ fault.WriteFault sent → e ≡ report_fault.WriteFault sent
+report_sent report_fault.NoMemory sent h = absurd (cc h)
+report_sent (report_fault.WriteFault some) sent h = cc h
+
+-- the first bytes of the text of the totals of a city are those of its summary
+pub part_from : (prepared : Prepared) (totals : Totals) → AreTotalsOfCity prepared.city prepared.tables.demand.pairs totals → (sent : ℕ) (old new : Option (List ℕ)) →
+    Appends old new (take sent (summary_text prepared.city totals prepared.counts)) → sent < length (summary_text prepared.city totals prepared.counts) →
+    AppendsPart (IsSummaryFrom prepared) sent old new
+part_from prepared totals are sent old new appended fewer = record {
+  bytes = summary_text prepared.city totals prepared.counts;
+  holds = record { totals = totals; all_reach = are.all_reach; assigned = are.plans.assignment; is_text = refl };
+  fewer = fewer;
+  appended = appended;
+}
 
 -- the summary of what was prepared of a job is that of the job
 pub summary_of_job : (job : JobData) (prepared : Prepared) → IsPreparedOf job prepared → (bytes : List ℕ) → IsSummaryFrom prepared bytes → IsSummaryOf job bytes
@@ -48,6 +70,21 @@ prints_part_of_job job prepared is sent old new h = record {
   holds = summary_of_job job prepared is h.bytes h.holds;
   fewer = h.fewer;
   appended = h.appended;
+}
+
+-- the totals that are printed of what was prepared of a job are those of the job
+pub prints_totals_of_job : (job : JobData) (prepared : Prepared) → IsPreparedOf job prepared → (old new : Option (List ℕ)) → PrintsTotalsFrom prepared old new → PrintsTotals job old new
+prints_totals_of_job job prepared is old new h = record {
+  feed = is.feed;
+  has_city = is.has_city;
+  totals = h.totals;
+  are_totals =
+      subst (λ (city : CityData). AreTotalsOfCity city (pairs_in job is.feed) h.totals) is.over.city
+      (subst (λ (pairs : List Pair). AreTotalsOfCity prepared.city pairs h.totals) (pairs_of job is.feed prepared is.over) h.are_totals);
+  all_units = h.all_units ∙ ap (λ (demand : DemandData). demand.units) is.over.demand;
+  appended =
+      subst (λ (city : CityData). Appends old new (summary_text city h.totals (counts_in job is.feed))) is.over.city
+      (subst (λ (counts : Counts). Appends old new (summary_text prepared.city h.totals counts)) is.over.counts h.appended);
 }
 
 -- a pair that does not reach, in what was prepared of a job

@@ -1,3 +1,4 @@
+pub mod ArrivalLemmas
 pub mod AssignmentLemmas
 pub mod BoundLemmas
 pub mod DemandLemmas

@@ -12,6 +12,7 @@ use Rattle.network.specs.Cities.{CityData}
 use Rattle.assign.specs.Assignments.{IsAssignment, bound_of_visits, cost_of_visits, volume_of}
 use Rattle.assign.specs.Plans.{HasPlans, IsPlanOf, flows_of}
 use Rattle.assign.specs.Visits.{IsVisitOf, Visit, demand_to, destinations_of}
+use Rattle.assign.proofs.ArrivalLemmas.{all_visits_arrive}
 use Rattle.assign.proofs.BoundLemmas.{plan_within}
 
 -- a visit is a plan
@@ -45,9 +46,13 @@ bounds_within city pairs (zone ∷ zones) (visit ∷ visits) are =
     rw (sum_by-cons (λ (v : Visit). bound_of_labels v.demand v.labels) visit visits, sum_by-cons (λ (v : Visit). cost_of_plan city.net v.volumes v.waits) visit visits)
     (omega (arith, here, rest))
 
--- an assignment has plans
+-- an assignment has plans, with which all demand arrives
 pub has_plans : (city : CityData) (pairs : List Pair) (totals : Totals) → IsAssignment city pairs totals → HasPlans city pairs totals
-has_plans city pairs totals is = record { assignment = is; plans = plans_of city pairs (destinations_of city pairs) is.visits is.are_visits }
+has_plans city pairs totals is = record {
+  assignment = is;
+  plans = plans_of city pairs (destinations_of city pairs) is.visits is.are_visits;
+  arrive = all_visits_arrive city pairs (destinations_of city pairs) is.visits is.are_visits;
+}
 
 -- the bound of an assignment is at most its cost
 pub bound_within_cost : (city : CityData) (pairs : List Pair) (totals : Totals) → IsAssignment city pairs totals → totals.bound ≤ totals.cost

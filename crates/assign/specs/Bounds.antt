@@ -8,7 +8,6 @@ use Rattle.definitions.specs.Totals.{longest_wait}
 use Rattle.demand.specs.declared.tables.Pair.{Pair}
 use Rattle.loading.specs.declared.totals.Totals.{Totals}
 use Rattle.network.specs.Cities.{CityData}
-use Rattle.assign.specs.Assignments.{IsAssignment}
 use Rattle.assign.specs.Visits.{Visit, demand_to, destinations_of, goal_of}
 
 -- the flow of each arc and the wait at each node, to one destination
@@ -50,6 +49,5 @@ abbrev pub waiting_places : NetworkData → List Visit → ℕ
 waiting_places net visits = sum_by (λ visit. waiting_nodes net visit.volumes) visits
 
 -- the cost exceeds the bound by at most the units that board, and twice the longest wait for each destination and node at which passengers wait
-pub record IsWithinBoardings (city : CityData) (pairs : List Pair) (totals : Totals) : Type 0 where
-  pub assignment : IsAssignment city pairs totals
-  pub within : totals.cost ≤ totals.bound + units_boarding city.net totals.volumes + 2 * longest_wait city.net * waiting_places city.net assignment.visits
+abbrev pub IsWithinBoardings : NetworkData → Totals → List Visit → Type 0
+IsWithinBoardings net totals visits = totals.cost ≤ totals.bound + units_boarding net totals.volumes + 2 * longest_wait net * waiting_places net visits

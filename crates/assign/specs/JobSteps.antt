@@ -1,14 +1,17 @@
 -- A job on its way: its tables read, and its city built.
-use Rattle.std.specs.Prelude.{◌≡◌, ◌⊎◌, ℕ, ◌≤◌, List, All, length}
+use Rattle.std.specs.Prelude.{◌≡◌, ◌⊎◌, ℕ, ◌≤◌, List, Option, All, length}
+use Rattle.desk_io.specs.Told.{Appends}
 use Rattle.feed_reader.specs.Feed.{FeedData}
 use Rattle.demand.specs.Laws.{IsLinkAmong, IsPairAmong, IsWalkAmong}
 use Rattle.demand.specs.declared.limits.TheConstants.{ZONE_LIMIT}
 use Rattle.demand.specs.declared.tables.Pair.{Pair}
+use Rattle.line_report.specs.Summary.{summary_text}
+use Rattle.loading.specs.declared.totals.Totals.{Totals}
 use Rattle.network.specs.Cities.{CityData}
 use Rattle.scenarios.specs.Feeds.{IsOfFeed}
 use Rattle.assign.specs.JobFaults.{HasCity, IsFirstOf, IsUnreachedPair}
 use Rattle.assign.specs.Jobs.{JobData, city_in, counts_in, demand_in, scenario_of_job, walks_in, zones_in}
-use Rattle.assign.specs.Printed.{IsSummaryWith}
+use Rattle.assign.specs.Printed.{AreTotalsOfCity, IsSummaryWith}
 use Rattle.assign.specs.Reached.{AllPairsReach}
 use Rattle.assign.specs.declared.job_fault.JobFault.{JobFault}
 use Rattle.assign.specs.declared.job_fault.JobFault.TheVariants as fault
@@ -69,3 +72,10 @@ IsUnprinted prepared (fault.Range name count) = ⊥
 -- bytes are the summary of what was prepared
 abbrev pub IsSummaryFrom : Prepared → List ℕ → Type 0
 IsSummaryFrom prepared bytes = IsSummaryWith prepared.city prepared.tables.demand.pairs prepared.counts bytes
+
+-- the summary of what was prepared stands behind what was written before, where that is told, and its totals are those of the city, with all units of the demand
+pub record PrintsTotalsFrom (prepared : Prepared) (old new : Option (List ℕ)) : Type 0 where
+  pub totals : Totals
+  pub are_totals : AreTotalsOfCity prepared.city prepared.tables.demand.pairs totals
+  pub all_units : totals.units ≡ prepared.tables.demand.units
+  pub appended : Appends old new (summary_text prepared.city totals prepared.counts)

@@ -4,7 +4,7 @@ ghost use Rattle.std.specs.Prelude.{◌≡◌, ◌≢◌, ◌+◌, ◌<◌, ◌�
 ghost use Rattle.std.specs.List.{list_any};
 ghost use Rattle.definitions.specs.Causes.{Rose};
 ghost use Rattle.demand.specs.Laws.{IsPairAmong};
-ghost use Rattle.assign.specs.Assignments.{IsShownAssignment, StopsEarly};
+ghost use Rattle.assign.specs.Assignments.{IsAssignment, IsShownAssignment, StopsEarly};
 ghost use Rattle.assign.specs.Bounds.{IsWithinBoardings, NoPlansAreCheaper};
 ghost use Rattle.assign.specs.Conditions.{ArePairs};
 ghost use Rattle.assign.specs.Partway.{AreReady, IsAssignedBelow, IsZoneDone};
@@ -158,11 +158,13 @@ pub fn assign<V: Visitor>(
         × StopsEarly city.now demand.now.pairs (V.visits each.old) (V.visits each.new) }
     ensures unvisited { IfErr result (λ found. found ≢ fault.VisitorFailed → each.new ≡ each.old) }
 
-    // Each destination has a plan, no plans are cheaper than the bound, and the cost is near it.
+    // Each destination has a plan with which all demand arrives, no plans are cheaper than the
+    // bound, and the cost is near it.
     ensures conserved { IfOk result (HasPlans city.now demand.now.pairs) }
     ensures no_plan_is_cheaper { IfOk result (λ totals. NoPlansAreCheaper city.now demand.now.pairs totals.bound) }
     ensures bound_within_cost { IfOk result (λ totals. totals.bound ≤ totals.cost) }
-    ensures gap_within_boardings { IfOk result (IsWithinBoardings city.now demand.now.pairs) }
+    ensures gap_within_boardings { IfOk result (λ totals. (assignment : IsAssignment city.now demand.now.pairs totals)
+        → IsWithinBoardings city.now.net totals assignment.visits) }
     ensures gap_within_slack { IfOk result (λ totals. totals.cost ≤ totals.bound + totals.slack) }
 {
     let net = city.net();

@@ -4,7 +4,7 @@ ghost use Rattle.std.specs.Prelude.{◌≡◌, ◌≢◌, ◌≤◌, ℕ, Err, I
 ghost use Rattle.definitions.specs.Causes.{Rose};
 ghost use Rattle.assign.specs.JobFaults.{HasCause};
 ghost use Rattle.assign.specs.JobViews.{job_of};
-ghost use Rattle.assign.specs.Printed.{IsSummaryOf, AppendsSome, AppendsPart};
+ghost use Rattle.assign.specs.Printed.{IsSummaryOf, AppendsSome, AppendsPart, PrintsTotals};
 ghost use Rattle.assign.specs.declared.job_fault.JobFault.TheVariants as fault;
 
 use crate::job_fault::JobFault;
@@ -33,6 +33,8 @@ pub fn job<S: Sink>(alloc: Global, job: &Job, out: &mut S) -> Result<(), JobFaul
     // What is written.
     ensures ok { OnOk result
         (AppendsSome (IsSummaryOf (job_of job.now)) (S.written out.old) (S.written out.new)) }
+    ensures totals { OnOk result
+        (PrintsTotals (job_of job.now) (S.written out.old) (S.written out.new)) }
     ensures sent { (sent : ℕ) → result ≡ Err (fault.WriteFault sent)
         → AppendsPart (IsSummaryOf (job_of job.now)) sent (S.written out.old) (S.written out.new) }
     ensures nothing { IfErr result

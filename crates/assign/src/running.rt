@@ -3,7 +3,7 @@
 ghost use Rattle.std.specs.Prelude.{◌≡◌, ◌≢◌, ◌≤◌, ℕ, All, Err, IfErr, IfOk, OnOk, length};
 ghost use Rattle.definitions.specs.Causes.{Rose};
 ghost use Rattle.demand.specs.Laws.{IsPairAmong};
-ghost use Rattle.assign.specs.JobSteps.{IsSummaryFrom, IsUnassigned, IsUnprinted};
+ghost use Rattle.assign.specs.JobSteps.{IsSummaryFrom, IsUnassigned, IsUnprinted, PrintsTotalsFrom};
 ghost use Rattle.assign.specs.Printed.{AreTotalsOfCity, AppendsSome, AppendsPart};
 ghost use Rattle.assign.specs.declared.job_fault.JobFault.TheVariants as fault;
 
@@ -30,6 +30,8 @@ pub(crate) fn print<S: Sink>(
     requires names { prepared.now.city.zones ≡ length prepared.now.tables.zones.names }
     ensures ok { OnOk result
         (AppendsSome (IsSummaryFrom prepared.now) (S.written out.old) (S.written out.new)) }
+    ensures totals { OnOk result
+        (PrintsTotalsFrom prepared.now (S.written out.old) (S.written out.new)) }
     ensures sent { (sent : ℕ) → result ≡ Err (fault.WriteFault sent)
         → AppendsPart (IsSummaryFrom prepared.now) sent (S.written out.old) (S.written out.new) }
     ensures nothing { IfErr result
@@ -57,6 +59,7 @@ fn totals_of(
     requires pairs { All (IsPairAmong city.now.zones) demand.now.pairs }
     requires names { city.now.zones ≡ length names.now }
     ensures totals { IfOk result (AreTotalsOfCity city.now demand.now.pairs) }
+    ensures units { IfOk result (λ totals. totals.units ≡ demand.now.units) }
     ensures volume_per_arc { IfOk result
         (λ totals. length totals.volumes ≡ length city.now.net.arcs) }
     ensures refused { IfErr result (IsUnassigned city.now demand.now.pairs names.now) }

@@ -52,7 +52,6 @@ returns-in-Ok-clause-gap_within_boardings g c =
     let within : AreWithin c.args.city.now.net c.visit_all.new.sums = c.in-Ok.ensures.within in
     within_boardings c.args.city.now c.args.demand.now.pairs c.totals.result
     (subst (IsEnoughForEach c.args.city.now.net) within.longest within.enough)
-    (returns-in-Ok-clause-assigned g c).0
 
 pub returns-clause-visitor_failed : goal.returns-clause-visitor_failed
 returns-clause-visitor_failed g c = λ _. (

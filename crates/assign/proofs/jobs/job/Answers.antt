@@ -5,7 +5,7 @@ use Rattle.assign.specs.JobSteps.{IsRefusedEarly, IsUnprinted}
 use Rattle.assign.specs.JobViews.{job_of}
 use Rattle.assign.specs.declared.job_fault.JobFault.TheVariants as fault
 use Rattle.assign.proofs.JobFaultLemmas.{early_cause, early_unsent}
-use Rattle.assign.proofs.JobLemmas.{late_cause, prints_job, prints_part_of_job}
+use Rattle.assign.proofs.JobLemmas.{late_cause, prints_job, prints_part_of_job, prints_totals_of_job}
 use Rattle.assign.proofs.jobs.job.Goals as goal
 
 pub returns-in_err-prepared-clause-sent : goal.returns-in_err-prepared-clause-sent
@@ -29,6 +29,11 @@ pub returns-clause-ok : goal.returns-clause-ok
 returns-clause-ok g c =
     on_ok_weaker c.print.result
     (prints_job (job_of c.args.job.now) c.in_ok-prepared.prepared c.in_ok-prepared.ensures.prepared (g.S.Sink.written c.args.out.now) (g.S.Sink.written c.print.new.out)) c.print.ensures.ok
+
+pub returns-clause-totals : goal.returns-clause-totals
+returns-clause-totals g c =
+    on_ok_weaker c.print.result
+    (prints_totals_of_job (job_of c.args.job.now) c.in_ok-prepared.prepared c.in_ok-prepared.ensures.prepared (g.S.Sink.written c.args.out.now) (g.S.Sink.written c.print.new.out)) c.print.ensures.totals
 
 pub returns-clause-sent : goal.returns-clause-sent
 returns-clause-sent g c = λ sent is.

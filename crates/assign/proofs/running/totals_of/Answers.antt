@@ -1,5 +1,6 @@
 use Rattle.std.proofs.Common.{ℕ, ◌<◌, List, Some, ap, sym, ◌∙◌, subst}
 use Rattle.std.proofs.lemmas.Option.{slice_get-get_or}
+use Rattle.assign.specs.Conditions.{units_of_pairs}
 use Rattle.assign.specs.Reached.{IsFirstUnreached}
 use Rattle.assign.proofs.JobLemmas.{unreached_named, unreached_zones}
 use Rattle.assign.proofs.running.totals_of.Goals as goal
@@ -31,3 +32,18 @@ returns-in-Err-Unreachable-clause-refused c =
     ∙ ap (λ (name : List ℕ). Some name) (sym c.index-names-destination.is) in
     unreached_named c.args.city.now c.args.demand.now.pairs c.args.names.now c.in-Err-Unreachable.origin c.in-Err-Unreachable.destination _ _ c.unreachable_pair.result first
     origin destination c.unreachable_pair.ensures.value
+
+pub returns-in-Ok-clause-totals : goal.returns-in-Ok-clause-totals
+returns-in-Ok-clause-totals c =
+    let made = c.in-Ok.ensures in
+    record {
+      all_reach = made.all_reach;
+      units = made.units ∙ sym c.pairs-pairs.ensures.total ∙ ap units_of_pairs c.pairs-pairs.ensures.value;
+      plans = made.conserved;
+      cost = made.conserved.assignment.is_total.cost;
+      volumes = made.conserved.assignment.is_total.volumes;
+      no_plan_is_cheaper = made.no_plan_is_cheaper;
+      bound_within_cost = made.bound_within_cost;
+      gap_within_boardings = made.gap_within_boardings made.conserved.assignment;
+      gap_within_slack = made.gap_within_slack;
+    }
