@@ -1,10 +1,10 @@
--- Each command but `solve` has an outcome over a folder's files, and where no count rose it is answered.
+-- Each command but `assign` and `solve` has an outcome over a folder's files, and where no count rose it is answered.
 use Rattle.std.proofs.Common.{◌≡◌, ℕ, ◌+◌, List, [], ◌⊎◌, inl, inr, length, Option, None, Some, refl}
 use Rattle.std.specs.Prelude.{IfSome}
 use Rattle.std.proofs.lemmas.Bool.{cases_lt}
 use Rattle.definitions.specs.declared.limits.TheConstants.{FILE_LIMIT}
 use Rattle.definitions.specs.Causes.{Rose}
-use Rattle.desk_io.specs.Told.{Appends, file_at}
+use Rattle.desk_io.specs.Told.{file_at}
 use Rattle.certificate.specs.Refusals.{IsAnswered}
 use Rattle.certificate.proofs.Verdicts.{lower_bound}
 use Rattle.certificate.proofs.EachText.{answered}
@@ -12,8 +12,9 @@ use Rattle.certificate.proofs.NeverMemory.{never_memory, never_valid}
 use Rattle.desk.specs.declared.status.Limit.TheVariants.{File}
 use Rattle.desk.specs.declared.status.UsageFault.TheVariants.{Words, NoFile}
 use Rattle.desk.specs.declared.status.Cause.{Cause}
-use Rattle.desk.specs.declared.status.Cause.TheVariants.{Done, Usage, Range, ReadFault, WriteFault, NoMemory, Refused, Unreachable}
-use Rattle.desk.specs.Command.{Command, Check, Solve}
+use Rattle.desk.specs.declared.status.Cause.TheVariants.{Done, Usage, Feed, Demand, Scenario, Range, ReadFault, WriteFault, NoMemory, Refused, Unreachable}
+use Rattle.desk.specs.declared.command.Command.{Command}
+use Rattle.desk.specs.declared.command.Command.TheVariants.{Assign, Check, Solve}
 use Rattle.desk.specs.Output.{verdict_lines}
 use Rattle.desk.specs.Read.{Files, IsRead}
 use Rattle.desk.specs.Outcome.{LiesOutside, IsOutcome, DidNotRise, IsDueAnswered, IsOutcomeAnswered, Completes}
@@ -42,7 +43,7 @@ of_text files path bytes read (inr told) = record {
 of_file : (files : List (List ℕ × List ℕ)) (path : List ℕ) (found : Option (List ℕ)) → file_at files path ≡ found → HasOutcome files (Some (Check path))
 of_file files path None here = record { cause = Usage (NoFile path); output = []; comes = (record { is = refl; file = here }, refl) }
 of_file files path (Some bytes) here = elim (cases_lt FILE_LIMIT (length bytes)) [
-  | inl long ↦ record { cause = Range File (FILE_LIMIT + 1); output = []; comes = (refl, refl, record { path = path; is = refl; file = (bytes, here, long) }, refl) }
+  | inl long ↦ record { cause = Range File (FILE_LIMIT + 1); output = []; comes = ((refl, refl, record { path = path; is = refl; file = (bytes, here, long) }), refl) }
   | inr few ↦ of_text files path bytes (record { path = path; is = refl; file = here; within = few }) (answered bytes)
 ]
 
@@ -54,6 +55,9 @@ no_command files = record { cause = Usage Words; output = []; comes = (refl, ref
 inside : (cause : Cause) (Read Wrote : Type 0) → LiesOutside cause → (cause ≡ ReadFault → Read) → ((sent : ℕ) → cause ≡ WriteFault sent → Wrote) → (Read → ⊥) → (Wrote → ⊥) → cause ≡ NoMemory
 inside Done Read Wrote out reads writes folder output = absurd out
 inside (Usage fault) Read Wrote out reads writes folder output = absurd out
+inside (Feed found) Read Wrote out reads writes folder output = absurd out
+inside (Demand found) Read Wrote out reads writes folder output = absurd out
+inside (Scenario found) Read Wrote out reads writes folder output = absurd out
 inside (Range limit count) Read Wrote out reads writes folder output = absurd out
 inside ReadFault Read Wrote out reads writes folder output = absurd (folder (reads refl))
 inside (WriteFault sent) Read Wrote out reads writes folder output = absurd (output (writes sent refl))
@@ -61,29 +65,26 @@ inside NoMemory Read Wrote out reads writes folder output = refl
 inside (Unreachable unreached) Read Wrote out reads writes folder output = absurd out
 inside (Refused fault) Read Wrote out reads writes folder output = absurd out
 
--- what is said of a run, by where its cause lies
-abbrev Ended : List (List ℕ × List ℕ) → Option Command → Cause → Option (List ℕ) → Option (List ℕ) → Type 0
-Ended told command cause old new = LiesOutside cause ⊎ ((output : List ℕ) × IsOutcome told command cause output × Appends old new output)
-
 -- a command that has an outcome
-due : (told : List (List ℕ × List ℕ)) (command : Option Command) (cause : Cause) (old new : Option (List ℕ)) → HasOutcome told command → Ended told command cause old new → (LiesOutside cause → cause ≡ NoMemory) →
+due : (told : List (List ℕ × List ℕ)) (command : Option Command) (cause : Cause) (old new : Option (List ℕ)) → HasOutcome told command → LiesOutside cause ⊎ IsOutcomeAnswered told command cause old new → (LiesOutside cause → cause ≡ NoMemory) →
     IsDueAnswered told command cause old new
 due told command cause old new h (inl out) within = record { due = h.cause; output = h.output; outcome = only told command h.cause h.output h.comes; answered = inl (within out) }
-due told command cause old new h (inr k) within = record { due = cause; output = k.0; outcome = only told command cause k.0 k.1; answered = inr (refl, k.2) }
+due told command cause old new h (inr k) within = record { due = cause; output = k.output; outcome = k.outcome; answered = inr (refl, k.appended) }
 
 -- a command of which the one outcome that comes is known
-known : (told : List (List ℕ × List ℕ)) (command : Option Command) (cause : Cause) (old new : Option (List ℕ)) → Ended told command cause old new → (LiesOutside cause → cause ≡ NoMemory) →
+known : (told : List (List ℕ × List ℕ)) (command : Option Command) (cause : Cause) (old new : Option (List ℕ)) → LiesOutside cause ⊎ IsOutcomeAnswered told command cause old new → (LiesOutside cause → cause ≡ NoMemory) →
     (cause ≡ NoMemory) ⊎ IsOutcomeAnswered told command cause old new
 known told command cause old new (inl out) within = inl (within out)
-known told command cause old new (inr k) within = inr (record { output = k.0; outcome = only told command cause k.0 k.1; appended = k.2 })
+known told command cause old new (inr k) within = inr k
 
-of_command : (told : List (List ℕ × List ℕ)) (command : Option Command) (cause : Cause) (old new : Option (List ℕ)) → Ended told command cause old new → (LiesOutside cause → cause ≡ NoMemory) → Completes told command cause old new
+of_command : (told : List (List ℕ × List ℕ)) (command : Option Command) (cause : Cause) (old new : Option (List ℕ)) → LiesOutside cause ⊎ IsOutcomeAnswered told command cause old new → (LiesOutside cause → cause ≡ NoMemory) → Completes told command cause old new
 of_command told None cause old new h within = due told None cause old new (no_command told) h within
+of_command told (Some (Assign words)) cause old new h within = known told (Some (Assign words)) cause old new h within
 of_command told (Some (Check path)) cause old new h within = due told (Some (Check path)) cause old new (of_file told path (file_at told path) refl) h within
 of_command told (Some (Solve path)) cause old new h within = known told (Some (Solve path)) cause old new h within
 
 pub complete : (files : Files) (command : Option Command) (cause : Cause) (folder_old folder_new out_old out_new : ℕ) (old new : Option (List ℕ)) →
-    IfSome files (λ told. LiesOutside cause ⊎ ((output : List ℕ) × IsOutcome told command cause output × Appends old new output)) →
+    IfSome files (λ told. LiesOutside cause ⊎ IsOutcomeAnswered told command cause old new) →
     (cause ≡ ReadFault → Rose folder_old folder_new) → ((sent : ℕ) → cause ≡ WriteFault sent → Rose out_old out_new) →
     DidNotRise folder_old folder_new → DidNotRise out_old out_new → IfSome files (λ told. Completes told command cause old new)
 complete None command cause folder_old folder_new out_old out_new old new h reads writes folder output = tt

@@ -11,12 +11,12 @@ use Rattle.certificate.specs.Fed.{CheckerData, bytes_so_far, IsRefusedForGood}
 use Rattle.certificate.specs.Refusals.{IsRefusedWith, HasFaultyLine}
 use Rattle.certificate.specs.Valid.{IsNoCertificate, IsOnly, NoPlanIsCheaperIn}
 use Rattle.desk.specs.declared.status.Cause.{Cause}
-use Rattle.desk.specs.declared.status.Cause.TheVariants.{Done, Usage, Range, ReadFault, WriteFault, NoMemory, Refused as RefusedCause, Unreachable}
-use Rattle.desk.specs.Command.{Check}
-use Rattle.desk.specs.Ends.{Reads, Unchecked}
+use Rattle.desk.specs.declared.status.Cause.TheVariants.{Done, Usage, Feed, Demand, Scenario, Range, ReadFault, WriteFault, NoMemory, Refused as RefusedCause, Unreachable}
+use Rattle.desk.specs.declared.command.Command.TheVariants.{Check}
+use Rattle.desk.specs.Ends.{Unchecked}
 use Rattle.desk.specs.Fed.{HasRead, IsFed, Unfed}
-use Rattle.desk.specs.Read.{Files, IsRead}
-use Rattle.desk.specs.Outcome.{IsChecked, IsRefusedCertificate}
+use Rattle.desk.specs.Read.{Files, Reads, IsRead}
+use Rattle.desk.specs.When.{IsChecked, IsRefusedCertificate}
 
 -- the whole file was read
 pub whole_file : (files : Files) (left : Option (List ℕ)) (path bytes : List ℕ) →
@@ -105,7 +105,10 @@ pub file_unread : (reads : Reads) (left : Option (List ℕ)) (path : List ℕ) (
     IfSome reads.files (λ told. IsSome (file_at told path)) → IfSome reads.files (λ told. left ≡ file_at told path) → reads.old_count ≤ mid → mid ≤ reads.new_count → Unfed left mid reads.new_count cause → Unchecked reads path cause
 file_unread reads left path mid Done found begun low high h = h
 file_unread reads left path mid (Usage fault) found begun low high h = absurd h
-file_unread reads left path mid (Range limit count) found begun low high h = (h.0, h.1, record { path = path; is = refl; file = long_file reads.files left path FILE_LIMIT found begun h.2 })
+file_unread reads left path mid (Feed fault) found begun low high h = absurd h
+file_unread reads left path mid (Demand fault) found begun low high h = absurd h
+file_unread reads left path mid (Scenario fault) found begun low high h = absurd h
+file_unread reads left path mid (Range limit count) found begun low high h = (h.0, h.1, long_file reads.files left path FILE_LIMIT found begun h.2)
 file_unread reads left path mid ReadFault found begun low high h = λ same. (let one : reads.new_count ≡ mid = omega arith in let last = h one in omega arith)
 file_unread reads left path mid (WriteFault sent) found begun low high h = h
 file_unread reads left path mid NoMemory found begun low high h = tt

@@ -1,9 +1,14 @@
 pub mod FileLemmas
+pub mod InputLaws
+pub mod InputFaultLemmas
+pub mod InputLemmas
 pub mod PrintLemmas
 pub mod FeedLemmas
 pub mod OneVerdict
 pub mod OneCertificate
+pub mod OneAssignment
 pub mod OneOutcome
 pub mod SolvingLemmas
 pub mod EndLemmas
+pub mod RunLemmas
 pub mod Completeness

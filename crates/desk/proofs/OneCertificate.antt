@@ -12,9 +12,9 @@ use Rattle.certificate.specs.Spelling.{Certificate, spelling}
 use Rattle.certificate.specs.NetworkText.{ProblemData}
 use Rattle.certificate.specs.NetworkRefusals.{IsProblem, HasProblem, HasNetworkRefusal}
 use Rattle.certificate.proofs.OneProblem.{one_problem, one_refusal, never_both}
-use Rattle.desk.specs.declared.status.Unreached.TheVariants.{Node}
+use Rattle.desk.specs.declared.status.Unreached.TheVariants.{Node, Pair}
 use Rattle.desk.specs.declared.status.Cause.{Cause}
-use Rattle.desk.specs.declared.status.Cause.TheVariants.{Done, Usage, Range, ReadFault, WriteFault, NoMemory, Refused, Unreachable}
+use Rattle.desk.specs.declared.status.Cause.TheVariants.{Done, Usage, Feed, Demand, Scenario, Range, ReadFault, WriteFault, NoMemory, Refused, Unreachable}
 use Rattle.desk.specs.Solved.{IsSolution, certificate_with}
 use Rattle.desk.proofs.OneVerdict.{Same}
 
@@ -96,40 +96,56 @@ same_node bytes a x b y h k =
 
 after_done : (bytes : List ℕ) (b : Cause) (x y : List ℕ) → HasCertificate bytes x → ShowsCertificate bytes b y → Same Done b x y
 after_done bytes Done x y h k = record { cause = refl; output = one_spelling bytes x y h k }
+after_done bytes (Feed fault) x y h k = absurd k
+after_done bytes (Demand fault) x y h k = absurd k
+after_done bytes (Scenario fault) x y h k = absurd k
 after_done bytes (Usage fault) x y h k = absurd k
 after_done bytes (Range limit count) x y h k = absurd k
 after_done bytes ReadFault x y h k = absurd k
 after_done bytes (WriteFault sent) x y h k = absurd k
 after_done bytes NoMemory x y h k = absurd k
+after_done bytes (Unreachable (Pair from to)) x y h k = absurd k
 after_done bytes (Unreachable (Node node)) x y h k = absurd (never_reached bytes x node y h k)
 after_done bytes (Refused fault) x y h k = absurd (never_both bytes h.problem fault h.text k.0)
 
 after_unreachable : (bytes : List ℕ) (node : ℕ) (b : Cause) (x y : List ℕ) → HasUnreachable bytes node x → ShowsCertificate bytes b y → Same (Unreachable (Node node)) b x y
 after_unreachable bytes node Done x y h k = absurd (never_reached bytes y node x k h)
+after_unreachable bytes node (Feed fault) x y h k = absurd k
+after_unreachable bytes node (Demand fault) x y h k = absurd k
+after_unreachable bytes node (Scenario fault) x y h k = absurd k
 after_unreachable bytes node (Usage fault) x y h k = absurd k
 after_unreachable bytes node (Range limit count) x y h k = absurd k
 after_unreachable bytes node ReadFault x y h k = absurd k
 after_unreachable bytes node (WriteFault sent) x y h k = absurd k
 after_unreachable bytes node NoMemory x y h k = absurd k
+after_unreachable bytes node (Unreachable (Pair from to)) x y h k = absurd k
 after_unreachable bytes node (Unreachable (Node other)) x y h k = record { cause = ap (λ n. Unreachable (Node n)) (same_node bytes node x other y h k); output = h.printed ∙ sym k.printed }
 after_unreachable bytes node (Refused fault) x y h k = absurd (never_both bytes h.problem fault h.text k.0)
 
 after_refused : (bytes : List ℕ) (fault : RefusedText) (b : Cause) (x y : List ℕ) → HasNetworkRefusal bytes fault × (x ≡ []) → ShowsCertificate bytes b y → Same (Refused fault) b x y
 after_refused bytes fault Done x y h k = absurd (never_both bytes k.problem fault k.text h.0)
+after_refused bytes fault (Feed usage) x y h k = absurd k
+after_refused bytes fault (Demand usage) x y h k = absurd k
+after_refused bytes fault (Scenario usage) x y h k = absurd k
 after_refused bytes fault (Usage usage) x y h k = absurd k
 after_refused bytes fault (Range limit count) x y h k = absurd k
 after_refused bytes fault ReadFault x y h k = absurd k
 after_refused bytes fault (WriteFault sent) x y h k = absurd k
 after_refused bytes fault NoMemory x y h k = absurd k
+after_refused bytes fault (Unreachable (Pair from to)) x y h k = absurd k
 after_refused bytes fault (Unreachable (Node node)) x y h k = absurd (never_both bytes k.problem fault k.text h.0)
 after_refused bytes fault (Refused other) x y h k = record { cause = ap Refused (one_refusal bytes fault other h.0 k.0); output = h.1 ∙ sym k.1 }
 
 pub one_certificate_shown : (bytes : List ℕ) (a b : Cause) (x y : List ℕ) → ShowsCertificate bytes a x → ShowsCertificate bytes b y → Same a b x y
 one_certificate_shown bytes Done b x y h k = after_done bytes b x y h k
+one_certificate_shown bytes (Feed fault) b x y h k = absurd h
+one_certificate_shown bytes (Demand fault) b x y h k = absurd h
+one_certificate_shown bytes (Scenario fault) b x y h k = absurd h
 one_certificate_shown bytes (Usage fault) b x y h k = absurd h
 one_certificate_shown bytes (Range limit count) b x y h k = absurd h
 one_certificate_shown bytes ReadFault b x y h k = absurd h
 one_certificate_shown bytes (WriteFault sent) b x y h k = absurd h
 one_certificate_shown bytes NoMemory b x y h k = absurd h
+one_certificate_shown bytes (Unreachable (Pair from to)) b x y h k = absurd h
 one_certificate_shown bytes (Unreachable (Node node)) b x y h k = after_unreachable bytes node b x y h k
 one_certificate_shown bytes (Refused fault) b x y h k = after_refused bytes fault b x y h k

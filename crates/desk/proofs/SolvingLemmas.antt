@@ -9,7 +9,7 @@ use Rattle.certificate.specs.NetworkText.{ProblemData}
 use Rattle.certificate.specs.NetworkRefusals.{IsProblem}
 use Rattle.certificate.specs.Spelling.{Certificate}
 use Rattle.certificate.specs.Valid.{IsValid}
-use Rattle.desk.specs.Command.{Command}
+use Rattle.desk.specs.declared.command.Command.{Command}
 use Rattle.desk.specs.Read.{Files}
 use Rattle.desk.specs.Solved.{IsSolution, IsSolved, IsWithinSlack, PrintsCertificate, certificate_with}
 

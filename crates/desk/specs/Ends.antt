@@ -1,29 +1,31 @@
 -- How the parts of a run end, by the cause that they answer.
-use Rattle.std.specs.Prelude.{◌≡◌, ℕ, ◌+◌, ◌<◌, List, length, take, Option, None, Some, IfSome}
-use Rattle.definitions.specs.declared.limits.TheConstants.{FILE_LIMIT}
+use Rattle.std.specs.Prelude.{◌≡◌, ℕ, ◌<◌, List, length, take, Option, Some}
 use Rattle.definitions.specs.Causes.{Rose}
-use Rattle.desk_io.specs.Told.{Appends, file_at}
+use Rattle.desk_io.specs.Told.{Appends}
 use Rattle.certificate.specs.declared.checking.Verdict.{Verdict}
 use Rattle.certificate.specs.Spelling.{spelling}
 use Rattle.certificate.specs.NetworkText.{ProblemData}
 use Rattle.certificate.specs.Valid.{IsValid}
 use Rattle.loading.specs.Loads.{IsFirstUnreachable}
-use Rattle.desk.specs.Command.{Command, Check, Solve}
-use Rattle.desk.specs.Output.{verdict_lines}
-use Rattle.desk.specs.Read.{Files, IsMissing, IsTooLong}
-use Rattle.desk.specs.Solved.{IsSolution, IsRefusedNetwork, certificate_with}
-use Rattle.desk.specs.Outcome.{IsRefused, IsRefusedCertificate, IsUnreachable, PrintedInPart, PrintedWhole}
-use Rattle.desk.specs.declared.status.Limit.TheVariants.{File}
-use Rattle.desk.specs.declared.status.UsageFault.TheVariants.{Words, NoFile}
-use Rattle.desk.specs.declared.status.Unreached.TheVariants.{Node}
+use Rattle.assign.specs.declared.job_fault.Limit.{Limit as JobLimit}
+use Rattle.assign.specs.declared.job_fault.JobFault.TheVariants as fault
+use Rattle.assign.specs.JobFaults.{HasUnreachedPair, IsFirstOf}
+use Rattle.assign.specs.Jobs.{JobData}
+use Rattle.assign.specs.Printed.{IsSummaryOf, AppendsSome, AppendsPart}
+use Rattle.desk.specs.declared.command.Command.{Command}
+use Rattle.desk.specs.declared.command.Command.TheVariants.{Check, Solve}
+use Rattle.desk.specs.declared.status.Limit.{Limit}
+use Rattle.desk.specs.declared.status.UsageFault.TheVariants.{NoFile}
+use Rattle.desk.specs.declared.status.Unreached.TheVariants.{Node, Pair}
 use Rattle.desk.specs.declared.status.Cause.{Cause}
-use Rattle.desk.specs.declared.status.Cause.TheVariants.{Done, Usage, Range, ReadFault, WriteFault, NoMemory, Refused, Unreachable}
-
--- a folder over a call: its files, and its count of faults before and after
-pub record Reads : Type 0 where
-  pub files : Files
-  pub old_count : ℕ
-  pub new_count : ℕ
+use Rattle.desk.specs.declared.status.Cause.TheVariants.{Done, Usage, Feed, Demand, Scenario, Range, ReadFault, WriteFault, NoMemory, Refused, Unreachable}
+use Rattle.desk.specs.InputFaults.{IsUnread}
+use Rattle.desk.specs.JobCauses.{limit_of}
+use Rattle.desk.specs.Output.{verdict_lines}
+use Rattle.desk.specs.Outcome.{IsDue, PrintedInPart, PrintedWhole}
+use Rattle.desk.specs.Read.{Reads}
+use Rattle.desk.specs.Solved.{IsSolution, IsRefusedNetwork, certificate_with}
+use Rattle.desk.specs.When.{IsRefusedCertificate}
 
 -- an output over a call: its count of faults and its bytes, before and after
 pub record Writes : Type 0 where
@@ -38,14 +40,12 @@ NamesPath path (Usage (NoFile name)) = name ≡ path
 NamesPath path NoMemory = Unit {0}
 NamesPath path cause = ⊥
 
+-- ---- check
+
 -- why the file at the path has no verdict
 abbrev pub Unchecked : Reads → List ℕ → Cause → Type 0
-Unchecked reads path (Usage (NoFile name)) = (name ≡ path) × IfSome reads.files (λ told. file_at told path ≡ None)
-Unchecked reads path ReadFault = Rose reads.old_count reads.new_count
-Unchecked reads path (Range limit count) = (limit ≡ File) × (count ≡ FILE_LIMIT + 1) × IsTooLong reads.files (Some (Check path))
 Unchecked reads path (Refused fault) = IsRefusedCertificate reads.files (Some (Check path)) fault
-Unchecked reads path NoMemory = Unit {0}
-Unchecked reads path cause = ⊥
+Unchecked reads path cause = IsUnread reads path cause
 
 -- how the printing of a verdict ends
 abbrev pub EndsPrinting : Verdict → Writes → Cause → Type 0
@@ -55,14 +55,12 @@ EndsPrinting verdict writes (WriteFault sent) =
 EndsPrinting verdict writes NoMemory = writes.new ≡ writes.old
 EndsPrinting verdict writes cause = ⊥
 
+-- ---- solve
+
 -- why the file at the path has no problem
 abbrev pub Unposed : Reads → List ℕ → Cause → Type 0
-Unposed reads path (Usage (NoFile name)) = IsMissing reads.files (Some (Solve path)) name
-Unposed reads path ReadFault = Rose reads.old_count reads.new_count
-Unposed reads path (Range limit count) = (limit ≡ File) × (count ≡ FILE_LIMIT + 1) × IsTooLong reads.files (Some (Solve path))
 Unposed reads path (Refused fault) = IsRefusedNetwork reads.files (Some (Solve path)) fault
-Unposed reads path NoMemory = Unit {0}
-Unposed reads path cause = ⊥
+Unposed reads path cause = IsUnread reads path cause
 
 -- the certificate of the problem was appended, and it is valid
 pub record SolvesWhole (problem : ProblemData) (old new : Option (List ℕ)) : Type 0 where
@@ -91,16 +89,33 @@ EndsSolving problem writes (Unreachable (Node node)) =
 EndsSolving problem writes NoMemory = writes.new ≡ writes.old
 EndsSolving problem writes cause = ⊥
 
+-- ---- assign
+
+-- the first fault of a job is that this limit is passed
+pub record IsRangeOf (job : JobData) (limit : Limit) (count : ℕ) : Type 0 where
+  pub name : JobLimit
+  pub is : limit ≡ limit_of name
+  pub first : IsFirstOf job (fault.Range name count)
+
+-- how the printing of a job's summary ends
+abbrev pub EndsJob : JobData → Writes → Cause → Type 0
+EndsJob job writes Done = AppendsSome (IsSummaryOf job) writes.old writes.new
+EndsJob job writes (WriteFault sent) = Rose writes.old_count writes.new_count × AppendsPart (IsSummaryOf job) sent writes.old writes.new
+EndsJob job writes (Feed found) = IsFirstOf job (fault.Feed found) × (writes.new ≡ writes.old)
+EndsJob job writes (Demand found) = IsFirstOf job (fault.Demand found) × (writes.new ≡ writes.old)
+EndsJob job writes (Scenario found) = IsFirstOf job (fault.Scenario found) × (writes.new ≡ writes.old)
+EndsJob job writes (Range limit count) = IsRangeOf job limit count × (writes.new ≡ writes.old)
+EndsJob job writes (Unreachable (Pair origin destination)) = HasUnreachedPair job origin destination × (writes.new ≡ writes.old)
+EndsJob job writes NoMemory = writes.new ≡ writes.old
+EndsJob job writes cause = ⊥
+
+-- ---- each command
+
 -- how a command ends
 abbrev pub EndsCommand : Reads → Writes → Option Command → Cause → Type 0
 EndsCommand reads writes command Done = PrintedWhole reads.files command writes.old writes.new
-EndsCommand reads writes command (Usage Words) = (command ≡ None) × (writes.new ≡ writes.old)
-EndsCommand reads writes command (Usage (NoFile name)) = IsMissing reads.files command name × (writes.new ≡ writes.old)
-EndsCommand reads writes command (Range limit count) =
-    (limit ≡ File) × (count ≡ FILE_LIMIT + 1) × IsTooLong reads.files command × (writes.new ≡ writes.old)
 EndsCommand reads writes command ReadFault = Rose reads.old_count reads.new_count × (writes.new ≡ writes.old)
 EndsCommand reads writes command (WriteFault sent) =
     Rose writes.old_count writes.new_count × PrintedInPart reads.files command writes.old writes.new sent
 EndsCommand reads writes command NoMemory = writes.new ≡ writes.old
-EndsCommand reads writes command (Unreachable (Node node)) = IsUnreachable reads.files command node × (writes.new ≡ writes.old)
-EndsCommand reads writes command (Refused fault) = IsRefused reads.files command fault × (writes.new ≡ writes.old)
+EndsCommand reads writes command cause = IsDue reads.files command cause × (writes.new ≡ writes.old)

@@ -1,5 +1,5 @@
 -- The fault text of each cause: one line, in parts that are joined. Here: docs/FORMATS.md.
-use Rattle.std.specs.Prelude.{ℕ, nat_le, ◌&&◌, List, [], ◌∷◌, codes, take, map, Option, None, Some, if◌then◌else◌}
+use Rattle.std.specs.Prelude.{ℕ, List, [], ◌∷◌, codes, Option, None, Some}
 use Rattle.std.specs.List.{concat}
 use Rattle.definitions.specs.Decimal.{numeral, line_end}
 use Rattle.lp_model.specs.declared.fault.NetFault.{NetFault}
@@ -13,20 +13,12 @@ use Rattle.certificate.specs.declared.refused.Limit.TheVariants as text_limit
 use Rattle.desk.specs.declared.status.Limit.{Limit}
 use Rattle.desk.specs.declared.status.Limit.TheVariants as limit
 use Rattle.desk.specs.declared.status.UsageFault.{UsageFault}
-use Rattle.desk.specs.declared.status.UsageFault.TheVariants.{Words, NoFile}
+use Rattle.desk.specs.declared.status.UsageFault.TheVariants.{Words, Date, Window, NoFile}
 use Rattle.desk.specs.declared.status.Unreached.{Unreached}
-use Rattle.desk.specs.declared.status.Unreached.TheVariants.{Node}
+use Rattle.desk.specs.declared.status.Unreached.TheVariants.{Node, Pair}
 use Rattle.desk.specs.declared.status.Cause.{Cause}
-use Rattle.desk.specs.declared.status.Cause.TheVariants.{Done, Usage, Range, ReadFault, WriteFault, NoMemory, Refused, Unreachable}
-
--- a byte as it is shown: `?` stands for those outside the printable ASCII characters
-abbrev pub shown_byte : ℕ → ℕ
-shown_byte byte = if nat_le 32 byte && nat_le byte 126 then byte else 63
-
--- a path as it is shown: its first 60 bytes, and `-` where it is empty
-abbrev pub shown : List ℕ → List ℕ
-shown [] = codes "-"
-shown (byte ∷ bytes) = map shown_byte (take 60 (byte ∷ bytes))
+use Rattle.desk.specs.declared.status.Cause.TheVariants.{Done, Usage, Feed, Demand, Scenario, Range, ReadFault, WriteFault, NoMemory, Refused, Unreachable}
+use Rattle.desk.specs.PlacedText.{shown, feed_text, demand_text, scenario_text}
 
 -- an arc's number, or `-` without one
 abbrev pub arc_text : Option ℕ → List ℕ
@@ -36,6 +28,13 @@ arc_text (Some arc) = numeral arc
 -- the names of limits
 abbrev pub limit_name : Limit → List ℕ
 limit_name limit.File = codes "file"
+limit_name limit.Files = codes "files"
+limit_name limit.Zones = codes "zones"
+limit_name limit.Units = codes "units"
+limit_name limit.Weight = codes "weight"
+limit_name limit.Cost = codes "cost"
+limit_name limit.Nodes = codes "nodes"
+limit_name limit.Arcs = codes "arcs"
 
 abbrev pub text_limit_name : TextLimit → List ℕ
 text_limit_name text_limit.Nodes = codes "nodes"
@@ -80,16 +79,22 @@ refused_text refused.NoMemory = codes "error 12: refused no memory" ∷ line_end
 -- the fault text of what is wrong with the words
 abbrev pub usage_text : UsageFault → List (List ℕ)
 usage_text Words = codes "error 2: usage words" ∷ line_end ∷ []
+usage_text Date = codes "error 2: usage date" ∷ line_end ∷ []
+usage_text Window = codes "error 2: usage window" ∷ line_end ∷ []
 usage_text (NoFile path) = codes "error 2: usage no file " ∷ shown path ∷ line_end ∷ []
 
 -- the fault text of demand that does not reach
 abbrev pub unreached_text : Unreached → List (List ℕ)
+unreached_text (Pair origin destination) = codes "error 6: unreachable " ∷ shown origin ∷ codes " " ∷ shown destination ∷ line_end ∷ []
 unreached_text (Node node) = codes "error 6: unreachable node " ∷ numeral node ∷ line_end ∷ []
 
 -- the fault text of a cause, none where the run is done
 abbrev pub cause_text : Cause → List (List ℕ)
 cause_text Done = []
 cause_text (Usage fault) = usage_text fault
+cause_text (Feed fault) = feed_text fault
+cause_text (Demand fault) = demand_text fault
+cause_text (Scenario fault) = scenario_text fault
 cause_text (Unreachable unreached) = unreached_text unreached
 cause_text (Range limit count) = codes "error 7: range " ∷ limit_name limit ∷ codes " " ∷ numeral count ∷ line_end ∷ []
 cause_text ReadFault = codes "error 8: read fault" ∷ line_end ∷ []

@@ -1,55 +1,16 @@
 -- What comes of a command. What is said of files holds where the folder tells them.
-use Rattle.std.specs.Prelude.{◌≡◌, ◌≢◌, ◌⊎◌, ℕ, ◌+◌, ◌<◌, List, [], length, take, Option, None, Some}
-use Rattle.definitions.specs.declared.limits.TheConstants.{FILE_LIMIT}
+use Rattle.std.specs.Prelude.{◌≡◌, ◌⊎◌, ℕ, ◌<◌, List, [], length, take, Option, None, Some}
 use Rattle.definitions.specs.Causes.{Rose}
 use Rattle.desk_io.specs.Told.{Appends}
-use Rattle.certificate.specs.declared.checking.Verdict.{Verdict}
-use Rattle.certificate.specs.declared.refused.Refused.{Refused as RefusedText}
-use Rattle.certificate.specs.declared.refused.Refused.TheVariants as refused
-use Rattle.certificate.specs.Valid.{IsNoCertificate, NoPlanIsCheaperIn}
-use Rattle.certificate.specs.Refusals.{IsRefusedWith}
-use Rattle.certificate.specs.Spelling.{Certificate, spelling}
-use Rattle.desk.specs.declared.status.Limit.TheVariants.{File}
-use Rattle.desk.specs.declared.status.UsageFault.TheVariants.{Words, NoFile}
-use Rattle.desk.specs.declared.status.Unreached.TheVariants.{Node}
+use Rattle.service_period.specs.declared.bad_period.BadPeriod.TheVariants as bad
+use Rattle.assign.specs.declared.job_fault.JobFault.TheVariants as fault
+use Rattle.desk.specs.declared.command.Command.{Command}
+use Rattle.desk.specs.declared.command.Command.TheVariants.{Assign, Check, Solve}
+use Rattle.desk.specs.declared.status.UsageFault.TheVariants.{Words, Date, Window, NoFile}
 use Rattle.desk.specs.declared.status.Cause.{Cause}
-use Rattle.desk.specs.declared.status.Cause.TheVariants.{Done, Usage, Range, ReadFault, WriteFault, NoMemory, Refused, Unreachable}
-use Rattle.desk.specs.Command.{Command, Check, Solve}
-use Rattle.desk.specs.Read.{Files, IsRead, IsMissing, IsTooLong}
-use Rattle.desk.specs.Solved.{IsSolved, IsUnreachableNode, IsRefusedNetwork}
-use Rattle.desk.specs.Output.{verdict_lines}
-
--- the command's file is a valid certificate with this verdict, and no plan is cheaper than its bound
-pub record IsChecked (files : Files) (command : Option Command) (verdict : Verdict) : Type 0 where
-  pub bytes : List ℕ
-  pub read : IsRead files command bytes
-  pub no_plan_is_cheaper : NoPlanIsCheaperIn bytes verdict
-
--- the command's file is no valid certificate, and is refused so
-pub record IsRefusedCertificate (files : Files) (command : Option Command) (fault : RefusedText) : Type 0 where
-  pub bytes : List ℕ
-  pub read : IsRead files command bytes
-  pub with : IsRefusedWith bytes fault
-  pub not_for_memory : fault ≢ refused.NoMemory
-  pub invalid : IsNoCertificate bytes
-
--- the output is what the command prints of its file: the lines of a certificate's verdict, or the certificate of a problem
-abbrev pub IsOutput : Files → Option Command → List ℕ → Type 0
-IsOutput files None output = ⊥
-IsOutput files (Some (Check path)) output = (verdict : Verdict) × IsChecked files (Some (Check path)) verdict × (output ≡ verdict_lines verdict)
-IsOutput files (Some (Solve path)) output = (certificate : Certificate) × IsSolved files (Some (Solve path)) certificate × (output ≡ spelling certificate)
-
--- the command's file is refused so
-abbrev pub IsRefused : Files → Option Command → RefusedText → Type 0
-IsRefused files None fault = ⊥
-IsRefused files (Some (Check path)) fault = IsRefusedCertificate files (Some (Check path)) fault
-IsRefused files (Some (Solve path)) fault = IsRefusedNetwork files (Some (Solve path)) fault
-
--- the command is `solve`, and the demand of this node, and of none below it, does not reach
-abbrev pub IsUnreachable : Files → Option Command → ℕ → Type 0
-IsUnreachable files None node = ⊥
-IsUnreachable files (Some (Check path)) node = ⊥
-IsUnreachable files (Some (Solve path)) node = IsUnreachableNode files (Some (Solve path)) node
+use Rattle.desk.specs.declared.status.Cause.TheVariants.{Done, Usage, Feed, Demand, Scenario, Range, ReadFault, WriteFault, NoMemory, Refused, Unreachable}
+use Rattle.desk.specs.Read.{Files}
+use Rattle.desk.specs.When.{HasBadPeriod, HasJobFault, IsOutput, IsRefused, IsUnreached, LacksFile, PassesLimit}
 
 -- the command's output was appended
 pub record PrintedWhole (files : Files) (command : Option Command) (old new : Option (List ℕ)) : Type 0 where
@@ -71,15 +32,24 @@ LiesOutside (WriteFault sent) = Unit {0}
 LiesOutside NoMemory = Unit {0}
 LiesOutside cause = ⊥
 
+-- when a cause comes that is neither done nor lies outside
+abbrev pub IsDue : Files → Option Command → Cause → Type 0
+IsDue files command (Usage Words) = command ≡ None
+IsDue files command (Usage Date) = HasBadPeriod command bad.Date
+IsDue files command (Usage Window) = HasBadPeriod command bad.Window
+IsDue files command (Usage (NoFile path)) = LacksFile files command path
+IsDue files command (Feed found) = HasJobFault files command (fault.Feed found)
+IsDue files command (Demand found) = HasJobFault files command (fault.Demand found)
+IsDue files command (Scenario found) = HasJobFault files command (fault.Scenario found)
+IsDue files command (Range limit count) = PassesLimit files command limit count
+IsDue files command (Unreachable unreached) = IsUnreached files command unreached
+IsDue files command (Refused found) = IsRefused files command found
+IsDue files command cause = ⊥
+
 -- what comes of a command over a folder's files, where the cause does not lie outside: the cause, and the output
 abbrev pub IsOutcome : List (List ℕ × List ℕ) → Option Command → Cause → List ℕ → Type 0
 IsOutcome files command Done output = IsOutput (Some files) command output
-IsOutcome files command (Usage Words) output = (command ≡ None) × (output ≡ [])
-IsOutcome files command (Usage (NoFile path)) output = IsMissing (Some files) command path × (output ≡ [])
-IsOutcome files command (Range limit count) output = (limit ≡ File) × (count ≡ FILE_LIMIT + 1) × IsTooLong (Some files) command × (output ≡ [])
-IsOutcome files command (Unreachable (Node node)) output = IsUnreachable (Some files) command node × (output ≡ [])
-IsOutcome files command (Refused fault) output = IsRefused (Some files) command fault × (output ≡ [])
-IsOutcome files command cause output = ⊥
+IsOutcome files command cause output = IsDue (Some files) command cause × (output ≡ [])
 
 -- ---- completeness
 
@@ -105,8 +75,9 @@ pub record IsOutcomeAnswered (files : List (List ℕ × List ℕ)) (command : Op
   pub outcome : IsOnlyOutcome files command cause output
   pub appended : Appends old new output
 
--- the one outcome of the command was answered, or memory was wanting; that there is one is said of all but `solve`
+-- the one outcome of the command was answered, or memory was wanting; that there is one is said of all but `assign` and `solve`
 abbrev pub Completes : List (List ℕ × List ℕ) → Option Command → Cause → Option (List ℕ) → Option (List ℕ) → Type 0
 Completes files None cause old new = IsDueAnswered files None cause old new
+Completes files (Some (Assign words)) cause old new = (cause ≡ NoMemory) ⊎ IsOutcomeAnswered files (Some (Assign words)) cause old new
 Completes files (Some (Check path)) cause old new = IsDueAnswered files (Some (Check path)) cause old new
 Completes files (Some (Solve path)) cause old new = (cause ≡ NoMemory) ⊎ IsOutcomeAnswered files (Some (Solve path)) cause old new

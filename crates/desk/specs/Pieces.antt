@@ -3,7 +3,7 @@ use Rattle.std.specs.Prelude.{ℕ, List}
 use Rattle.definitions.specs.Decimal.{numeral}
 use Rattle.desk.specs.declared.pieces.Piece.{Piece}
 use Rattle.desk.specs.declared.pieces.Piece.TheVariants.{Text, Number, Shown}
-use Rattle.desk.specs.FaultText.{shown}
+use Rattle.desk.specs.PlacedText.{shown}
 
 -- what is written of a piece
 abbrev pub piece_text : Piece → List ℕ

@@ -2,11 +2,18 @@
 use Rattle.std.specs.Prelude.{◌≡◌, ℕ, ◌<◌, ◌≤◌, List, length, Option, None, Some, IfSome}
 use Rattle.definitions.specs.declared.limits.TheConstants.{FILE_LIMIT}
 use Rattle.desk_io.specs.Told.{file_at}
-use Rattle.desk.specs.Command.{Command, file_of}
+use Rattle.desk.specs.declared.command.Command.{Command}
+use Rattle.desk.specs.Command.{file_of}
 
 -- the files that a folder tells, each a path and its bytes, or None
 abbrev pub Files : Type 0
 Files = Option (List (List ℕ × List ℕ))
+
+-- a folder over a call: its files, and its count of faults before and after
+pub record Reads : Type 0 where
+  pub files : Files
+  pub old_count : ℕ
+  pub new_count : ℕ
 
 -- the command reads a file within the limit, which has these bytes
 pub record IsRead (files : Files) (command : Option Command) (bytes : List ℕ) : Type 0 where

@@ -11,7 +11,7 @@ use Rattle.certificate.specs.Spelling.{Certificate, certificate_of, spelling}
 use Rattle.certificate.specs.NetworkText.{ProblemData}
 use Rattle.certificate.specs.NetworkRefusals.{HasProblem, HasNetworkRefusal}
 use Rattle.certificate.specs.Valid.{verdict_of}
-use Rattle.desk.specs.Command.{Command}
+use Rattle.desk.specs.declared.command.Command.{Command}
 use Rattle.desk.specs.Read.{Files, IsRead}
 
 -- the labels of a problem's destination, the volumes that follow from them for its demand, all of which reaches, and their least waits

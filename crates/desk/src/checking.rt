@@ -1,9 +1,9 @@
 //! `check`: the verdict of a certificate.
 
 ghost use Rattle.std.specs.Prelude.{◌≤◌, Some, IfOk, IfErr};
-ghost use Rattle.desk.specs.Command.{Check};
+ghost use Rattle.desk.specs.declared.command.Command.TheVariants.{Check};
 ghost use Rattle.desk.specs.Ends.{EndsCommand, EndsPrinting, Unchecked};
-ghost use Rattle.desk.specs.Outcome.{IsChecked};
+ghost use Rattle.desk.specs.When.{IsChecked};
 
 use crate::feeding::feed_all;
 use crate::status::Cause;

@@ -6,13 +6,16 @@ ghost use Rattle.desk.specs.FaultText.{fault_text, unreached_text, usage_text};
 ghost use Rattle.desk.specs.Printing.{Prints};
 
 mod limits;
+mod placed;
 mod refused;
+mod tables;
 
 use crate::pieces::{Piece, write_numbered, write_pieces};
 use crate::status::{Cause, Unreached, UsageFault};
 use desk_io::{Failed, Sink};
 use limits::limit_name;
 use refused::write_refused;
+use tables::{write_demand, write_feed, write_scenario};
 
 /// Writes the fault text of a cause, which is one line, and nothing where the run is done.
 ///
@@ -23,7 +26,10 @@ pub fn write_fault_text<E: Sink>(err: &mut E, cause: &Cause) -> Result<(), Faile
     match cause {
         Cause::Done => Ok(()),
         Cause::Usage(fault) => write_usage(err, fault),
-        Cause::Unreachable(unreached) => write_unreached(err, *unreached),
+        Cause::Feed(fault) => write_feed(err, fault),
+        Cause::Demand(fault) => write_demand(err, fault),
+        Cause::Scenario(fault) => write_scenario(err, fault),
+        Cause::Unreachable(unreached) => write_unreached(err, unreached),
         Cause::Range(limit, count) => {
             let name = limit_name(*limit);
             write_pieces(
@@ -59,8 +65,16 @@ fn write_usage<E: Sink>(err: &mut E, fault: &UsageFault) -> Result<(), Failed>
             err,
             &[Piece::Text("error 2: usage words"), Piece::Text("\n")],
         ),
+        UsageFault::Date => write_pieces(
+            err,
+            &[Piece::Text("error 2: usage date"), Piece::Text("\n")],
+        ),
+        UsageFault::Window => write_pieces(
+            err,
+            &[Piece::Text("error 2: usage window"), Piece::Text("\n")],
+        ),
         UsageFault::NoFile(path) => {
-            let path = Piece::Shown(path.as_str());
+            let path = Piece::Shown(path.as_str().as_bytes());
             write_pieces(
                 err,
                 &[
@@ -74,18 +88,26 @@ fn write_usage<E: Sink>(err: &mut E, fault: &UsageFault) -> Result<(), Failed>
 }
 
 // Writes the fault text of demand that does not reach.
-fn write_unreached<E: Sink>(err: &mut E, unreached: Unreached) -> Result<(), Failed>
-    ensures prints { Prints (E.count err.old) (E.count err.new) (E.written err.old) (E.written err.new) (concat (unreached_text unreached)) }
-{
-    let node = node_of(unreached);
-    write_numbered(err, "error 6: unreachable node ", node as u128)
-}
-
-// The node whose demand does not reach.
-fn node_of(unreached: Unreached) -> u32
-    ensures node { unreached ≡ Unreached.Node result }
+fn write_unreached<E: Sink>(err: &mut E, unreached: &Unreached) -> Result<(), Failed>
+    ensures prints { Prints (E.count err.old) (E.count err.new) (E.written err.old) (E.written err.new) (concat (unreached_text unreached.now)) }
 {
     match unreached {
-        Unreached::Node(node) => node,
+        Unreached::Pair(origin, destination) => {
+            let origin = Piece::Shown(origin.as_str().as_bytes());
+            let destination = Piece::Shown(destination.as_str().as_bytes());
+            write_pieces(
+                err,
+                &[
+                    Piece::Text("error 6: unreachable "),
+                    origin,
+                    Piece::Text(" "),
+                    destination,
+                    Piece::Text("\n"),
+                ],
+            )
+        }
+        Unreached::Node(node) => {
+            write_numbered(err, "error 6: unreachable node ", *node as u128)
+        }
     }
 }

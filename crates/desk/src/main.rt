@@ -1,9 +1,14 @@
 //! The transit assignment desk: a program over the files of a folder.
 #![tactic(auto)]
 
+mod assigning;
 mod checking;
+mod command;
 mod fault_text;
 mod feeding;
+mod inputs;
+mod job_cause;
+mod known_words;
 mod pieces;
 mod run;
 mod solving;

@@ -5,7 +5,7 @@ ghost use Rattle.std.specs.List.{concat, flat_map};
 ghost use Rattle.definitions.specs.Decimal.{numeral, line_end};
 ghost use Rattle.definitions.specs.Causes.{Rose};
 ghost use Rattle.desk_io.specs.Told.{Appends};
-ghost use Rattle.desk.specs.FaultText.{shown, shown_byte};
+ghost use Rattle.desk.specs.PlacedText.{shown, shown_byte};
 ghost use Rattle.desk.specs.Pieces.{piece_text};
 ghost use Rattle.desk.specs.Printing.{Prints};
 
@@ -18,8 +18,8 @@ use itoa::Buffer;
 pub enum Piece<'a> {
     Text(&'a str),
     Number(u128),
-    /// A path, as fault texts show it: printable, at most 60 bytes, `-` where it is empty.
-    Shown(&'a str),
+    /// A path, an id or a field, as fault texts show it: printable, at most 60 bytes, `-` where it is empty.
+    Shown(&'a [u8]),
 }
 
 /// Writes the pieces one after the other, and stops where the sink fails.
@@ -57,20 +57,20 @@ fn write_piece<S: Sink>(sink: &mut S, piece: &Piece<'_>) -> Result<(), Failed>
             let mut digits = Buffer::new();
             write_bytes(sink, digits.format(*number).as_bytes())
         }
-        Piece::Shown(path) => write_shown(sink, path),
+        Piece::Shown(bytes) => write_shown(sink, bytes),
     }
 }
 
-// Writes a path as fault texts show it.
-fn write_shown<S: Sink>(sink: &mut S, path: &str) -> Result<(), Failed>
-    ensures ok { OnOk result (Appends (S.written sink.old) (S.written sink.new) (shown path.now)) }
+// Writes bytes as fault texts show them.
+fn write_shown<S: Sink>(sink: &mut S, bytes: &[u8]) -> Result<(), Failed>
+    ensures ok { OnOk result (Appends (S.written sink.old) (S.written sink.new) (shown bytes.now)) }
     ensures write_cause { OnErr result (Rose (S.count sink.old) (S.count sink.new)) }
-    ensures prints { Prints (S.count sink.old) (S.count sink.new) (S.written sink.old) (S.written sink.new) (shown path.now) }
+    ensures prints { Prints (S.count sink.old) (S.count sink.new) (S.written sink.old) (S.written sink.new) (shown bytes.now) }
 {
-    if path.is_empty() {
+    if bytes.is_empty() {
         return write_bytes(sink, b"-");
     }
-    let shown = shown_bytes(path.as_bytes());
+    let shown = shown_bytes(bytes);
     write_bytes(sink, shown.as_slice())
 }
 

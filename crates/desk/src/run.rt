@@ -1,43 +1,60 @@
 //! All that the program does, over a folder and two streams.
 
-ghost use Rattle.std.specs.Prelude.{◌≡◌, ◌↔◌, ◌+◌, ◌⊎◌, ℕ, List, None, Some, IfSome};
-ghost use Rattle.std.specs.Option.{option_copied};
+ghost use Rattle.std.specs.Prelude.{◌≡◌, ◌≢◌, ◌⊎◌, ℕ, List, None, Some, IfSome, IsSome};
 ghost use Rattle.definitions.specs.Causes.{Rose};
-ghost use Rattle.desk_io.specs.Told.{Appends};
+ghost use Rattle.service_period.specs.declared.bad_period.BadPeriod.TheVariants as bad;
+ghost use Rattle.feed_reader.specs.declared.fault.FeedFault.{FeedFault};
+ghost use Rattle.demand.specs.declared.fault.DemandFault.{DemandFault};
+ghost use Rattle.scenarios.specs.declared.fault.ScenarioFault.{ScenarioFault};
+ghost use Rattle.assign.specs.declared.job_fault.JobFault.TheVariants as fault;
 ghost use Rattle.certificate.specs.declared.refused.Refused.{Refused as RefusedText};
 ghost use Rattle.certificate.specs.Valid.{IsValid};
-ghost use Rattle.desk.specs.Command.{Solve, path_of, command_of};
+ghost use Rattle.desk.specs.declared.command.AssignWords.{AssignWords as TheWords};
+ghost use Rattle.desk.specs.declared.command.Command.TheVariants.{Assign, Solve};
+ghost use Rattle.desk.specs.Assigned.{PrintsAssignment};
+ghost use Rattle.desk.specs.Command.{command_of};
 ghost use Rattle.desk.specs.Ends.{EndsCommand};
 ghost use Rattle.desk.specs.FaultText.{fault_text};
-ghost use Rattle.desk.specs.Outcome.{Completes, DidNotRise, IsOutcome, IsRefused, IsUnreachable, LiesOutside, PrintedInPart, PrintedWhole};
+ghost use Rattle.desk.specs.Outcome.{Completes, DidNotRise, IsOutcomeAnswered, LiesOutside, PrintedInPart, PrintedWhole};
 ghost use Rattle.desk.specs.Printing.{Prints};
-ghost use Rattle.desk.specs.Read.{IsMissing, IsTooLong};
 ghost use Rattle.desk.specs.Solved.{IsWithinSlack, PrintsCertificate};
 ghost use Rattle.desk.specs.Status.{code_of, WritesNothing};
+ghost use Rattle.desk.specs.When.{HasBadPeriod, HasJobFault, IsRefused, IsUnreached, LacksFile, PassesLimit};
 
+use crate::assigning::assign;
 use crate::checking::check;
+use crate::command::Command;
 use crate::fault_text::write_fault_text;
+use crate::known_words::{Unknown, command_of};
 use crate::solving::solve;
 use crate::status::{Cause, Limit, Status, Unreached, UsageFault};
-use definitions::FILE_LIMIT;
 use desk_io::{Folder, Name, Sink};
 use std::alloc::Global;
 
 /// Carries out the command of the words, and tells how it ended.
 ///
-/// `words` exclude the program's own name. `check FILE` prints the verdict of the certificate in
+/// `words` exclude the program's own name. `assign FOLDER ..` prints the summary of the assignment
+/// of a demand to the network of the feed in that folder (Spiess and Florian 1989, in whole
+/// numbers), after the changes of a scenario. `check FILE` prints the verdict of the certificate in
 /// that file of the folder. `solve FILE` prints a certificate of the network text in that file, with
-/// the labels (ticks), volumes (units) and waits (ticks times units) of Spiess and Florian (1989),
-/// in whole numbers. The output goes to `out`. Where the code is not 0, the fault text goes to
-/// `err`, and whether that succeeds changes nothing.
+/// the labels (ticks), volumes (units) and waits (ticks times units). The output goes to `out`.
+/// Where the code is not 0, the fault text goes to `err`, and whether that succeeds changes nothing.
 ///
 /// # Causes
 ///
-/// The first that applies, in this order: `Usage` where the words are no command or the file is not
-/// there, `ReadFault` where the folder failed, `Range` where the file is longer than its limit,
-/// `Refused` where its text is no valid certificate, or for `solve` no network text, `Unreachable`
-/// where for `solve` the demand of a node does not reach, `WriteFault` where `out` failed, else
-/// `Done`. `NoMemory` may come in place of any.
+/// The first that applies, in this order.
+/// - `Usage`: the words are no command; then the text of the date is none; then those of the window.
+/// - `Range`, `Usage` and `ReadFault`, file by file as the command reads them: a file is longer than
+///   a file may be, those of the feed so far are longer than all of them may be, a named file is not
+///   there, or the folder failed.
+/// - `Refused`: for `check` the text is no valid certificate, for `solve` no network text.
+/// - For `assign`: `Feed`; then `Demand` of the zones, of the walks and of the demand; then
+///   `Scenario`; and `Range`, where a table, the lines or the network passes a limit, the lines after
+///   the scenario and the network after them.
+/// - `Unreachable`: the demand of a pair of zones, or for `solve` of a node, does not reach.
+/// - `WriteFault`: `out` failed. Else it is `Done`.
+///
+/// `NoMemory` may come in place of any.
 pub fn run<D: Folder, O: Sink, E: Sink>(
     alloc: Global,
     words: &[Name],
@@ -47,10 +64,17 @@ pub fn run<D: Folder, O: Sink, E: Sink>(
 ) -> Status
     ensures code { result.code ≡ code_of result.cause }
 
-    // The output of the command was printed whole: for `check` the verdict of the file, and no plan
-    // is cheaper than its bound; for `solve` the certificate of the file's problem.
+    // The output of the command was printed whole: for `assign` the summary of the job of the files,
+    // for `check` the verdict of the file, for `solve` the certificate of the file's problem.
     ensures done { result.cause ≡ Cause.Done
         → PrintedWhole (D.files folder.old) (command_of words.now) (O.written out.old) (O.written out.new) }
+
+    // The summary that `assign` printed has the totals of the job's one assignment. Every unit of demand
+    // between two zones is sent to its destination and arrives, conserved at each node; no plans are
+    // cheaper than the printed bound; the printed cost is that of the volumes and waits of all
+    // destinations, which add up to those printed; and it is within the printed slack of the bound.
+    ensures assigned { (values : TheWords) → command_of words.now ≡ Some (Assign values) → result.cause ≡ Cause.Done
+        → PrintsAssignment (D.files folder.old) values (O.written out.old) (O.written out.new) }
 
     // The certificate that `solve` printed is valid, and its cost is within its slack of its bound.
     ensures solved { (path : List ℕ) → command_of words.now ≡ Some (Solve path) → result.cause ≡ Cause.Done
@@ -59,21 +83,30 @@ pub fn run<D: Folder, O: Sink, E: Sink>(
         → PrintsCertificate (D.files folder.old) (command_of words.now) IsWithinSlack (O.written out.old) (O.written out.new) }
 
     // When each other cause comes.
-    ensures words { (result.cause ≡ Cause.Usage UsageFault.Words) ↔ (command_of words.now ≡ None) }
+    ensures words { result.cause ≡ Cause.Usage UsageFault.Words → command_of words.now ≡ None }
+    ensures known { result.cause ≢ Cause.Usage UsageFault.Words → result.cause ≢ Cause.NoMemory → IsSome (command_of words.now) }
+    ensures date { result.cause ≡ Cause.Usage UsageFault.Date → HasBadPeriod (command_of words.now) bad.Date }
+    ensures window { result.cause ≡ Cause.Usage UsageFault.Window → HasBadPeriod (command_of words.now) bad.Window }
     ensures no_file { (path : List ℕ) → result.cause ≡ Cause.Usage (UsageFault.NoFile path)
-        → IsMissing (D.files folder.old) (command_of words.now) path }
-    ensures read_cause { result.cause ≡ Cause.ReadFault → Rose (D.count folder.old) (D.count folder.new) }
+        → LacksFile (D.files folder.old) (command_of words.now) path }
+    ensures feed { (found : FeedFault) → result.cause ≡ Cause.Feed found
+        → HasJobFault (D.files folder.old) (command_of words.now) (fault.Feed found) }
+    ensures demand { (found : DemandFault) → result.cause ≡ Cause.Demand found
+        → HasJobFault (D.files folder.old) (command_of words.now) (fault.Demand found) }
+    ensures scenario { (found : ScenarioFault) → result.cause ≡ Cause.Scenario found
+        → HasJobFault (D.files folder.old) (command_of words.now) (fault.Scenario found) }
+    ensures unreachable { (unreached : Unreached) → result.cause ≡ Cause.Unreachable unreached
+        → IsUnreached (D.files folder.old) (command_of words.now) unreached }
     ensures range { (limit : Limit) (count : ℕ) → result.cause ≡ Cause.Range limit count
-        → (limit ≡ Limit.File) × (count ≡ FILE_LIMIT + 1) × IsTooLong (D.files folder.old) (command_of words.now) }
-    ensures refused { (fault : RefusedText) → result.cause ≡ Cause.Refused fault
-        → IsRefused (D.files folder.old) (command_of words.now) fault }
-    ensures unreachable { (node : ℕ) → result.cause ≡ Cause.Unreachable (Unreached.Node node)
-        → IsUnreachable (D.files folder.old) (command_of words.now) node }
+        → PassesLimit (D.files folder.old) (command_of words.now) limit count }
+    ensures refused { (found : RefusedText) → result.cause ≡ Cause.Refused found
+        → IsRefused (D.files folder.old) (command_of words.now) found }
+    ensures read_cause { result.cause ≡ Cause.ReadFault → Rose (D.count folder.old) (D.count folder.new) }
     ensures write_cause { (sent : ℕ) → result.cause ≡ Cause.WriteFault sent → Rose (O.count out.old) (O.count out.new) }
 
-    // Over a folder that tells its files, all this in one relation.
-    ensures outcome { IfSome (D.files folder.old) (λ files. LiesOutside result.cause ⊎ ((output : List ℕ)
-        × IsOutcome files (command_of words.now) result.cause output × Appends (O.written out.old) (O.written out.new) output)) }
+    // Over a folder that tells its files, all this in one relation: just this cause and this output come of them.
+    ensures outcome { IfSome (D.files folder.old) (λ files. LiesOutside result.cause
+        ⊎ IsOutcomeAnswered files (command_of words.now) result.cause (O.written out.old) (O.written out.new)) }
 
     // And where no count rose but that of `err`, just the one outcome that there is, or want of memory.
     ensures complete { DidNotRise (D.count folder.old) (D.count folder.new) → DidNotRise (O.count out.old) (O.count out.new)
@@ -98,29 +131,42 @@ fn carry_out<D: Folder, O: Sink>(
     folder: &mut D,
     out: &mut O,
 ) -> Cause
-    ensures words { (result ≡ Cause.Usage UsageFault.Words) ↔ (command_of words.now ≡ None) }
+    ensures known { result ≢ Cause.Usage UsageFault.Words → result ≢ Cause.NoMemory → IsSome (command_of words.now) }
     ensures ends { EndsCommand
         (record { files = D.files folder.old; old_count = D.count folder.old; new_count = D.count folder.new })
         (record { old_count = O.count out.old; new_count = O.count out.new; old = O.written out.old; new = O.written out.new })
         (command_of words.now) result }
+    ensures assigned { (values : TheWords) → command_of words.now ≡ Some (Assign values) → result ≡ Cause.Done
+        → PrintsAssignment (D.files folder.old) values (O.written out.old) (O.written out.new) }
     ensures solved { (path : List ℕ) → command_of words.now ≡ Some (Solve path) → result ≡ Cause.Done
         → PrintsCertificate (D.files folder.old) (command_of words.now) IsValid (O.written out.old) (O.written out.new) }
 {
-    if let Some(path) = path_of(words, "check") {
-        return check(alloc, path, folder, out);
+    match command_of(alloc, words) {
+        Ok(command) => carry_out_command(alloc, &command, folder, out),
+        Err(Unknown::Words) => Cause::Usage(UsageFault::Words),
+        Err(Unknown::NoMemory) => Cause::NoMemory,
     }
-    if let Some(path) = path_of(words, "solve") {
-        return solve(alloc, path, folder, out);
-    }
-    Cause::Usage(UsageFault::Words)
 }
 
-// The path of the words `NAME PATH`, None where the words are others.
-fn path_of<'a>(words: &'a [Name], name: &str) -> Option<&'a str>
-    ensures path { option_copied result ≡ path_of words.now name.now }
+// Carries out a command.
+fn carry_out_command<D: Folder, O: Sink>(
+    alloc: Global,
+    command: &Command,
+    folder: &mut D,
+    out: &mut O,
+) -> Cause
+    ensures ends { EndsCommand
+        (record { files = D.files folder.old; old_count = D.count folder.old; new_count = D.count folder.new })
+        (record { old_count = O.count out.old; new_count = O.count out.new; old = O.written out.old; new = O.written out.new })
+        (Some command.now) result }
+    ensures assigned { (values : TheWords) → command.now ≡ Assign values → result ≡ Cause.Done
+        → PrintsAssignment (D.files folder.old) values (O.written out.old) (O.written out.new) }
+    ensures solved { (path : List ℕ) → command.now ≡ Solve path → result ≡ Cause.Done
+        → PrintsCertificate (D.files folder.old) (Some command.now) IsValid (O.written out.old) (O.written out.new) }
 {
-    match words {
-        [word, path] if word.as_str() == name => Some(path.as_str()),
-        _ => None,
+    match command {
+        Command::Assign(words) => assign(alloc, words, folder, out),
+        Command::Check(path) => check(alloc, path.as_str(), folder, out),
+        Command::Solve(path) => solve(alloc, path.as_str(), folder, out),
     }
 }

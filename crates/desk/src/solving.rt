@@ -3,15 +3,14 @@
 ghost use Rattle.std.specs.Prelude.{◌≡◌, List, ℕ, Some, IfOk, IfErr};
 ghost use Rattle.certificate.specs.NetworkRefusals.{IsProblem, problem_of};
 ghost use Rattle.certificate.specs.Valid.{IsValid};
-ghost use Rattle.desk.specs.Command.{Solve};
+ghost use Rattle.desk.specs.declared.command.Command.TheVariants.{Solve};
 ghost use Rattle.desk.specs.Ends.{EndsCommand, EndsSolving, Unposed};
-ghost use Rattle.desk.specs.Read.{IsRead};
 ghost use Rattle.desk.specs.Solved.{IsPosed, IsSolution, PrintsCertificate, certificate_with};
 
-use crate::status::{Cause, Limit, Unreached};
+use crate::inputs::read_file;
+use crate::status::{Cause, Unreached};
 use certificate::{Problem, Refused, read_network, write_certificate};
-use definitions::FILE_LIMIT;
-use desk_io::{Begin, Folder, ReadAll, Sink, read_all};
+use desk_io::{Folder, Sink};
 use label_setting::{Workspace, labels};
 use loading::{Loads, load};
 use std::alloc::Global;
@@ -37,30 +36,11 @@ fn problem_of_file<D: Folder>(alloc: Global, path: &str, folder: &mut D) -> Resu
     ensures unposed { IfErr result (Unposed
         (record { files = D.files folder.old; old_count = D.count folder.old; new_count = D.count folder.new }) path.now) }
 {
-    let bytes = bytes_of_file(alloc, path, folder)?;
+    let bytes = read_file(alloc, path, folder)?;
     match read_network(alloc, bytes.as_slice()) {
         Ok(problem) => Ok(problem),
         Err(Refused::NoMemory) => Err(Cause::NoMemory),
         Err(refused) => Err(Cause::Refused(refused)),
-    }
-}
-
-// The bytes of the file at the path, or why they were not read.
-fn bytes_of_file<D: Folder>(alloc: Global, path: &str, folder: &mut D) -> Result<Vec<u8>, Cause>
-    ensures read { IfOk result (λ bytes. IsRead (D.files folder.old) (Some (Solve path.now)) bytes.items) }
-    ensures unread { IfErr result (Unposed
-        (record { files = D.files folder.old; old_count = D.count folder.old; new_count = D.count folder.new }) path.now) }
-{
-    match folder.begin(path) {
-        Begin::Found => {}
-        Begin::Missing => return Err(Cause::no_file(alloc, path)),
-        Begin::Failed => return Err(Cause::ReadFault),
-    }
-    match read_all(alloc, folder, FILE_LIMIT) {
-        Ok(bytes) => Ok(bytes),
-        Err(ReadAll::ReadFault) => Err(Cause::ReadFault),
-        Err(ReadAll::TooLarge) => Err(Cause::Range(Limit::File, FILE_LIMIT as u128 + 1)),
-        Err(ReadAll::NoMemory) => Err(Cause::NoMemory),
     }
 }
 

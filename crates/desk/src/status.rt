@@ -5,7 +5,10 @@ ghost use Rattle.desk.specs.Ends.{NamesPath};
 ghost use Rattle.desk.specs.Status.{code_of};
 
 use certificate::Refused;
+use demand::DemandFault;
 use desk_io::Name;
+use feed_reader::FeedFault;
+use scenarios::ScenarioFault;
 use std::alloc::Global;
 
 /// How a run ended: the exit code of the program, and why.
@@ -21,7 +24,14 @@ pub enum Cause {
     /// The whole output was written.
     Done,
     Usage(UsageFault),
-    /// Some demand does not reach its destination: the first, as the command reads it.
+    /// The feed is refused.
+    Feed(FeedFault),
+    /// The zones, the walks or the demand are refused.
+    Demand(DemandFault),
+    /// The scenario is refused.
+    Scenario(ScenarioFault),
+    /// Some demand does not reach its destination: for `assign` the first pair by destination and
+    /// then by origin, for `solve` the least node.
     Unreachable(Unreached),
     /// A limit was passed, other than inside a text that is checked or solved: the limit, and the count that passed it.
     Range(Limit, u128),
@@ -39,13 +49,19 @@ pub enum Cause {
 pub enum UsageFault {
     /// They are no command.
     Words,
+    /// The text of the date is none.
+    Date,
+    /// The texts of the window are no times, or no window.
+    Window,
     /// A file that they name is not there.
     NoFile(Name),
 }
 
 /// Demand that does not reach its destination.
-#[derive(Clone, Copy, Debug, Drop, PartialEq, Eq)]
+#[derive(Drop)]
 pub enum Unreached {
+    /// That between the zones of these names: the origin, and the destination.
+    Pair(gtfs_rows::Name, gtfs_rows::Name),
     /// That of this node, in the problem of a network text.
     Node(u32),
 }
@@ -54,6 +70,13 @@ pub enum Unreached {
 #[derive(Clone, Copy, Debug, Drop, PartialEq, Eq)]
 pub enum Limit {
     File,
+    Files,
+    Zones,
+    Units,
+    Weight,
+    Cost,
+    Nodes,
+    Arcs,
 }
 
 impl Status {
@@ -64,6 +87,9 @@ impl Status {
         let code = match &cause {
             Cause::Done => 0,
             Cause::Usage(_) => 2,
+            Cause::Feed(_) => 3,
+            Cause::Demand(_) => 4,
+            Cause::Scenario(_) => 5,
             Cause::Unreachable(_) => 6,
             Cause::Range(_, _) => 7,
             Cause::ReadFault => 8,

@@ -1,4 +1,8 @@
 //! Whole runs over objects in memory, one file a command.
 
+mod assignments;
 mod check;
+mod city;
+mod running;
 mod solve;
+mod texts;

@@ -13,6 +13,13 @@ pub fn limit_name(limit: Limit) -> &'static str
 {
     match limit {
         Limit::File => "file",
+        Limit::Files => "files",
+        Limit::Zones => "zones",
+        Limit::Units => "units",
+        Limit::Weight => "weight",
+        Limit::Cost => "cost",
+        Limit::Nodes => "nodes",
+        Limit::Arcs => "arcs",
     }
 }
 

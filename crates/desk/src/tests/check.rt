@@ -1,17 +1,14 @@
 //! Runs of `check`.
 
-ghost use Rattle.std.specs.Prelude.{◌<◌};
-
 mod outside;
 
-use crate::run::run;
-use crate::status::Status;
-use desk_io::{Blob, MemoryFolder, MemorySink, Name};
-use std::alloc::{AllocError, Global};
+use super::running::{Ending, Trial, expect};
+use super::texts::replaced;
+use std::alloc::AllocError;
 use std::process::Abort;
 use std::test::Fail;
 
-/// The certificate of one line, which runs seven times in the window.
+// The certificate of one line, which runs seven times in the window.
 const ONE_LINE: &str = "assignment-certificate 1
 nodes 2
 arcs 1
@@ -28,66 +25,18 @@ q 0
 end
 ";
 
-/// What a run answered and wrote.
-#[derive(Drop)]
-pub struct Ran {
-    pub status: Status,
-    pub out: MemorySink,
-    pub err: MemorySink,
-}
-
-/// Runs the words over a folder with one file, whose calls of these numbers fail. `room` is that of the output.
-pub fn run_words(
+// Asserts that `check` of the text ends so. The file comes in pieces of seven bytes.
+fn expect_verdict(
     rt: &(impl Abort + AllocGlobal),
-    words: &[&str],
-    file: (&str, &str),
-    failing: &[u64],
-    room: usize,
-) -> Result<Ran, AllocError> {
-    let bytes = Blob::new(Vec::from_slice(rt.alloc(), file.1.as_bytes())?);
-    run_over(
-        rt,
-        words,
-        folder_of(rt, file.0, bytes, 1000, failing)?,
-        room,
-    )
-}
-
-/// Runs the words over a folder. `room` is that of the output.
-pub fn run_over(
-    rt: &(impl Abort + AllocGlobal),
-    words: &[&str],
-    mut folder: MemoryFolder,
-    room: usize,
-) -> Result<Ran, AllocError> {
-    let alloc = rt.alloc();
-    let mut names = Vec::new(alloc);
-    for word in words {
-        names.push(Name::new(String::from_str(alloc, word)?))?;
-    }
-    let mut out = MemorySink::new(alloc, room, 7, Vec::new(alloc))?;
-    let mut err = MemorySink::new(alloc, 1000, 1000, Vec::new(alloc))?;
-    let status = run(alloc, names.as_slice(), &mut folder, &mut out, &mut err);
-    Ok(Ran { status, out, err })
-}
-
-/// A folder with one file, of which one read gives at most `step` bytes.
-pub fn folder_of(
-    rt: &(impl Abort + AllocGlobal),
-    path: &str,
-    bytes: Blob,
-    step: usize,
-    failing: &[u64],
-) -> Result<MemoryFolder, AllocError>
-    requires step { 0 < step }
-{
-    let alloc = rt.alloc();
-    let path = Name::new(String::from_str(alloc, path)?);
-    let mut files = Vec::new(alloc);
-    files.push((path, bytes))?;
-    assert!(rt; MemoryFolder::has_distinct_paths(&files));
-    let failing = Vec::from_slice(alloc, failing)?;
-    Ok(MemoryFolder::new(files, step, failing))
+    text: &str,
+    ending: Ending<'_>,
+) -> Result<(), AllocError> {
+    let files = [("c", text)];
+    let trial = Trial {
+        in_pieces: true,
+        ..Trial::new(&files, &["check", "c"])
+    };
+    expect(rt, trial, ending)
 }
 
 #[test]
@@ -115,13 +64,7 @@ fn prints_the_verdict_of_a_valid_certificate(rt: HostRuntime) -> Result<(), Fail
         ),
     ];
     for (text, lines) in tables {
-        // The file comes in pieces of 7 bytes.
-        let bytes = Blob::new(Vec::from_slice(rt.alloc(), text.as_bytes())?);
-        let folder = folder_of(&rt, "c", bytes, 7, &[])?;
-        let ran = run_over(&rt, &["check", "c"], folder, 1000)?;
-        assert_eq!(rt; ran.status.code, 0, "{lines}");
-        assert_eq!(rt; ran.out.bytes(), lines.as_bytes(), "{lines}");
-        assert_eq!(rt; ran.err.bytes(), b"".as_slice(), "{lines}");
+        expect_verdict(&rt, text, Ending::printed(lines))?;
     }
     Ok(())
 }
@@ -172,10 +115,7 @@ fn tells_what_is_wrong_with_a_text(rt: HostRuntime) -> Result<(), Fail> {
     ];
     for (line, changed, fault) in changes {
         let text = replaced(rt.alloc(), ONE_LINE, line, changed)?;
-        let ran = run_words(&rt, &["check", "c"], ("c", text.as_str()), &[], 1000)?;
-        assert_eq!(rt; ran.status.code, 12, "{changed}");
-        assert_eq!(rt; ran.out.bytes(), b"".as_slice(), "{changed}");
-        assert_eq!(rt; ran.err.bytes(), fault.as_bytes(), "{changed}");
+        expect_verdict(&rt, text.as_str(), Ending::refused(12, fault))?;
     }
     Ok(())
 }
@@ -183,31 +123,14 @@ fn tells_what_is_wrong_with_a_text(rt: HostRuntime) -> Result<(), Fail> {
 #[test]
 fn a_text_that_ends_early_is_refused_at_its_end(rt: HostRuntime) -> Result<(), Fail> {
     for end in 0..126usize {
-        let cut = ONE_LINE.get(..end).ok_or("so many bytes")?;
-        let ran = run_words(&rt, &["check", "c"], ("c", cut), &[], 1000)?;
-        let fault = format!(in rt.alloc(); "error 12: refused grammar at {end}\n")?;
-        assert_eq!(rt; ran.status.code, 12, "at {end}");
-        assert_eq!(rt; ran.out.bytes(), b"".as_slice(), "at {end}");
-        assert_eq!(rt; ran.err.bytes(), fault.as_bytes(), "at {end}");
+        expect_refusal_at(&rt, end)?;
     }
     Ok(())
 }
 
-/// The text with another line in place of one.
-pub fn replaced(
-    alloc: Global,
-    text: &str,
-    line: &str,
-    changed: &str,
-) -> Result<String, AllocError> {
-    let mut made = String::new(alloc);
-    match text.split_once(line) {
-        Some((before, after)) => {
-            made.push_str(before)?;
-            made.push_str(changed)?;
-            made.push_str(after)?;
-        }
-        None => made.push_str(text)?,
-    }
-    Ok(made)
+// Asserts that the certificate is refused at this place where it ends there.
+fn expect_refusal_at(rt: &(impl Abort + AllocGlobal), end: usize) -> Result<(), AllocError> {
+    let cut = ONE_LINE.get(..end).unwrap_or("");
+    let fault = format!(in rt.alloc(); "error 12: refused grammar at {end}\n")?;
+    expect_verdict(rt, cut, Ending::refused(12, fault.as_str()))
 }

@@ -1,10 +1,12 @@
 //! Runs of `solve`.
 
-use super::check::{folder_of, replaced, run_over, run_words};
-use desk_io::Blob;
+use super::running::{Ending, Trial, expect, expect_on, expect_over, folder_of_long_file};
+use super::texts::replaced;
+use std::alloc::AllocError;
+use std::process::Abort;
 use std::test::Fail;
 
-/// The problem of one line, which runs seven times in the window, with a further node.
+// The problem of one line, which runs seven times in the window, with a further node.
 const ONE_LINE: &str = "assignment-network 1
 nodes 3
 arcs 1
@@ -62,24 +64,26 @@ fn prints_a_certificate_that_check_accepts(rt: HostRuntime) -> Result<(), Fail> 
         ),
     ];
     for (problem, claims, lines) in tables {
-        let alloc = rt.alloc();
-        let text = format!(in alloc; "assignment-network 1\n{problem}end\n")?;
-        let certificate = format!(in alloc; "assignment-certificate 1\n{problem}{claims}end\n")?;
-        let solved = run_words(&rt, &["solve", "n"], ("n", text.as_str()), &[], 1000)?;
-        assert_eq!(rt; solved.status.code, 0, "{lines}");
-        assert_eq!(rt; solved.out.bytes(), certificate.as_bytes(), "{lines}");
-        assert_eq!(rt; solved.err.bytes(), b"".as_slice(), "{lines}");
-        let bytes = Blob::new(Vec::from_slice(alloc, solved.out.bytes())?);
-        let checked = run_over(
-            &rt,
-            &["check", "c"],
-            folder_of(&rt, "c", bytes, 1000, &[])?,
-            1000,
-        )?;
-        assert_eq!(rt; checked.status.code, 0, "{lines}");
-        assert_eq!(rt; checked.out.bytes(), lines.as_bytes(), "{lines}");
+        expect_certificate(&rt, problem, claims, lines)?;
     }
     Ok(())
+}
+
+// Asserts that the problem is solved by a certificate with these claims, of which `check` prints
+// these lines.
+fn expect_certificate(
+    rt: &(impl Abort + AllocGlobal),
+    problem: &str,
+    claims: &str,
+    lines: &str,
+) -> Result<(), AllocError> {
+    let alloc = rt.alloc();
+    let text = format!(in alloc; "assignment-network 1\n{problem}end\n")?;
+    let certificate = format!(in alloc; "assignment-certificate 1\n{problem}{claims}end\n")?;
+    let solved = Ending::printed(certificate.as_str());
+    expect_on(rt, ("n", text.as_str()), &["solve", "n"], solved)?;
+    let checked = Ending::printed(lines);
+    expect_on(rt, ("c", certificate.as_str()), &["check", "c"], checked)
 }
 
 #[test]
@@ -125,10 +129,8 @@ fn tells_why_there_is_no_certificate(rt: HostRuntime) -> Result<(), Fail> {
     ];
     for (line, changed, code, fault) in changes {
         let text = replaced(rt.alloc(), ONE_LINE, line, changed)?;
-        let ran = run_words(&rt, &["solve", "n"], ("n", text.as_str()), &[], 1000)?;
-        assert_eq!(rt; ran.status.code, code, "{fault}");
-        assert_eq!(rt; ran.out.bytes(), b"".as_slice(), "{fault}");
-        assert_eq!(rt; ran.err.bytes(), fault.as_bytes(), "{fault}");
+        let ending = Ending::refused(code, fault);
+        expect_on(&rt, ("n", text.as_str()), &["solve", "n"], ending)?;
     }
     Ok(())
 }
@@ -158,25 +160,22 @@ fn tells_faults_of_words_folder_and_output(rt: HostRuntime) -> Result<(), Fail> 
         ),
         (&["solve", "n"], 9, 0, 9, "", "error 9: write fault 0\n"),
     ];
-    for (words, failing, room, code, output, fault) in cases {
-        let ran = run_words(&rt, words, ("n", ONE_LINE), &[failing], room)?;
-        assert_eq!(rt; ran.status.code, code, "{fault}");
-        assert_eq!(rt; ran.out.bytes(), output.as_bytes(), "{fault}");
-        assert_eq!(rt; ran.err.bytes(), fault.as_bytes(), "{fault}");
+    let files = [("n", ONE_LINE)];
+    for (words, call, room, code, out, err) in cases {
+        let trial = Trial {
+            failing: Some(call),
+            room,
+            ..Trial::new(&files, words)
+        };
+        expect(&rt, trial, Ending { code, out, err })?;
     }
     Ok(())
 }
 
 #[test]
 fn refuses_a_file_past_its_limit(rt: HostRuntime) -> Result<(), Fail> {
-    let bytes = vec![in rt.alloc(); b'a'; 268_435_457]?;
-    let folder = folder_of(&rt, "n", Blob::new(bytes), 65_536, &[])?;
-    let ran = run_over(&rt, &["solve", "n"], folder, 10)?;
-    assert_eq!(rt; ran.status.code, 7);
-    assert_eq!(rt; ran.out.bytes(), b"".as_slice());
-    assert_eq!(rt;
-        ran.err.bytes(),
-        b"error 7: range file 268435457\n".as_slice()
-    );
+    let folder = folder_of_long_file(&rt, "n")?;
+    let ending = Ending::refused(7, "error 7: range file 268435457\n");
+    expect_over(&rt, folder, Trial::new(&[], &["solve", "n"]), ending)?;
     Ok(())
 }

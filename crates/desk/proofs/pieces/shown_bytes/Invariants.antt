@@ -1,6 +1,6 @@
 use Rattle.std.proofs.Common.{◌≡◌, take, map}
 use Rattle.arrayvec.specs.ArrayVec.{array_vec_len}
-use Rattle.desk.specs.FaultText.{shown_byte}
+use Rattle.desk.specs.PlacedText.{shown_byte}
 use Rattle.desk.proofs.pieces.shown_bytes.Given as goal
 
 abbrev pub invariant-loop-byte : goal.invariant-loop-byte

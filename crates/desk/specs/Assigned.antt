@@ -1,0 +1,72 @@
+-- What `assign` makes of the files that its words name: a job, and the summary of its assignment, or why there is none.
+use Rattle.std.specs.Prelude.{◌≡◌, ℕ, List, [], Option, Some, slice_get}
+use Rattle.service_period.specs.Periods.{IsPeriodOf, PeriodData, period_faults}
+use Rattle.service_period.specs.declared.bad_period.BadPeriod.{BadPeriod}
+use Rattle.assign.specs.declared.job_fault.Limit.{Limit as JobLimit}
+use Rattle.assign.specs.declared.job_fault.JobFault.{JobFault}
+use Rattle.assign.specs.declared.job_fault.JobFault.TheVariants as fault
+use Rattle.assign.specs.JobFaults.{HasUnreachedPair, IsFirstOf}
+use Rattle.assign.specs.Jobs.{JobData}
+use Rattle.assign.specs.Printed.{IsSummaryOf, PrintsTotals}
+use Rattle.desk.specs.declared.command.AssignWords.{AssignWords}
+use Rattle.desk.specs.declared.inputs.Inputs.{Inputs}
+use Rattle.desk.specs.declared.status.Limit.{Limit}
+use Rattle.desk.specs.declared.status.Cause.{Cause}
+use Rattle.desk.specs.InputFaults.{IsInputFault}
+use Rattle.desk.specs.Inputs.{AreInputsOf}
+use Rattle.desk.specs.JobCauses.{limit_of}
+use Rattle.desk.specs.Read.{Files}
+
+-- the files of a job
+abbrev pub inputs_in : JobData → Inputs
+inputs_in job = record { files = job.files; zones = job.zones; demand = job.demand; walks = job.walks; scenario = job.scenario }
+
+-- the job of files in a period
+abbrev pub job_with : Inputs → PeriodData → JobData
+job_with inputs period = record { files = inputs.files; zones = inputs.zones; walks = inputs.walks; demand = inputs.demand; scenario = inputs.scenario; period = period }
+
+-- the job is that of the files that the words name, in the period that they write
+pub record IsJobOf (files : Files) (words : AssignWords) (job : JobData) : Type 0 where
+  pub period : IsPeriodOf words.date words.from words.to job.period
+  pub inputs : AreInputsOf files words (inputs_in job)
+
+-- the output is the summary of the job of the files
+pub record IsAssigned (files : Files) (words : AssignWords) (output : List ℕ) : Type 0 where
+  pub job : JobData
+  pub is_job : IsJobOf files words job
+  pub is_summary : IsSummaryOf job output
+
+-- the summary of the job of the files was appended, with the totals of its assignment: each destination has a plan, no plans are cheaper than the bound, and the cost is near it
+pub record PrintsAssignment (files : Files) (words : AssignWords) (old new : Option (List ℕ)) : Type 0 where
+  pub job : JobData
+  pub is_job : IsJobOf files words job
+  pub prints : PrintsTotals job old new
+
+-- ---- why there is no summary
+
+-- the texts of the words are no period, and this is the first reason
+abbrev pub IsBadPeriod : AssignWords → BadPeriod → Type 0
+IsBadPeriod words bad = slice_get (period_faults words.date words.from words.to) 0 ≡ Some bad
+
+-- the texts of the words are a period, and this is the first fault of the files that they name
+pub record IsRefusedInput (files : Files) (words : AssignWords) (cause : Cause) : Type 0 where
+  pub period : period_faults words.date words.from words.to ≡ []
+  pub fault : IsInputFault files words cause
+
+-- this is the first fault of the job of the files
+pub record IsRefusedJob (files : Files) (words : AssignWords) (answer : JobFault) : Type 0 where
+  pub job : JobData
+  pub is_job : IsJobOf files words job
+  pub first : IsFirstOf job answer
+
+-- the first fault of the job of the files is that this limit is passed
+pub record PassesJobLimit (files : Files) (words : AssignWords) (limit : Limit) (count : ℕ) : Type 0 where
+  pub name : JobLimit
+  pub is : limit ≡ limit_of name
+  pub refused : IsRefusedJob files words (fault.Range name count)
+
+-- the first pair of the job of the files that does not reach is the one between zones of these names
+pub record IsUnreachedPair (files : Files) (words : AssignWords) (origin destination : List ℕ) : Type 0 where
+  pub job : JobData
+  pub is_job : IsJobOf files words job
+  pub unreached : HasUnreachedPair job origin destination
