@@ -15,6 +15,7 @@ pub mod SpreadLemmas
 pub mod StepLemmas
 pub mod LoopLemmas
 pub mod HeapLemmas
+pub mod ShownLemmas
 pub mod NumberLemmas
 pub mod PutLemmas
 pub mod FirstLemmas

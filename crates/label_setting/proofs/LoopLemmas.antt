@@ -1,8 +1,11 @@
 -- The arcs into a node, looked at one after another.
-use Rattle.std.proofs.Common.{◌≡◌, ◌≢◌, ℕ, ◌+◌, ◌-◌, ◌<◌, ◌≤◌, ◌==◌, List, [], length, get_or, drop, refl, sym, ◌∙◌, arith}
+use Rattle.std.proofs.Common.{◌≡◌, ◌≢◌, ℕ, ◌+◌, ◌-◌, ◌<◌, ◌≤◌, ◌==◌, List, [], length, map, get_or, drop, refl, sym, ◌∙◌, ap, arith}
 use Rattle.std.proofs.lemmas.Bool.{eqb-false}
-use Rattle.std.proofs.lemmas.List.{drop_more}
+use Rattle.std.proofs.lemmas.List.{drop_more, length-map, get_or-map}
+use Rattle.definitions.specs.declared.arc.NetArc.{NetArc}
 use Rattle.definitions.specs.Network.{NetworkData, head_of, in_arcs}
+use Rattle.lp_model.specs.declared.entering.Entering.{Entering}
+use Rattle.lp_model.specs.Entered.{entering_in}
 use Rattle.label_setting.specs.declared.settling.Settling.{Settling}
 use Rattle.label_setting.specs.Partway.{seen_to, all_seen}
 use Rattle.label_setting.specs.Settling.{Settles, IsToSpread, label_in, mark_in, number_in}
@@ -45,3 +48,12 @@ end_of net r i level state h =
 
 pub spread_on : (net : NetworkData) (i : ℕ) (first old new : Settling) → IsSpreadFrom net i first old → IsSpreadFrom net i old new → IsSpreadFrom net i first new
 spread_on net i first old new a b = record { marks = b.marks ∙ a.marks; others = λ c lt ne. b.others c lt ne ∙ a.others c lt ne }
+
+-- as many arcs as numbers, and each has its number
+pub entering_each : (arcs : List NetArc) (items : List Entering) (numbers : List ℕ) → items ≡ map (entering_in arcs) numbers → length items ≡ length numbers
+entering_each arcs items numbers e = ap length e ∙ length-map numbers (entering_in arcs)
+
+pub entering_at : (arcs : List NetArc) (items : List Entering) (numbers : List ℕ) (place : ℕ) (d : Entering) → items ≡ map (entering_in arcs) numbers → place < length items → (get_or items place d).arc ≡ get_or numbers place 0
+entering_at arcs items numbers place d e lt =
+    let each = entering_each arcs items numbers e in
+    ap (λ l. (get_or l place d).arc) e ∙ ap (λ t. t.arc) (get_or-map (entering_in arcs) numbers place 0 d (omega arith))

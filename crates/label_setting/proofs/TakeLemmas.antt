@@ -18,7 +18,7 @@ use Rattle.label_setting.proofs.StepLemmas.{stands_as}
 
 -- a state with another queue
 abbrev pub with_queue : Settling → List (Option ℕ) → Settling
-with_queue state q = record { labels = state.labels; reached = state.reached; order = state.order; settled = state.settled; weights = state.weights; totals = state.totals; queue = q }
+with_queue state q = record { labels = state.labels; reached = state.reached; order = state.order; settled = state.settled; weights = state.weights; totals = state.totals; bounds = state.bounds; queue = q }
 
 -- how much is left to do
 abbrev pub left_in : NetworkData → Settling → ℕ

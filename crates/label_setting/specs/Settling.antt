@@ -1,8 +1,9 @@
 -- The state in which labels are settled: what holds of it between two steps, and what a step changes.
-use Rattle.std.specs.Prelude.{◌≡◌, ℕ, ◌+◌, ◌<◌, Bool, true, List, length, take, Option, slice_index}
+use Rattle.std.specs.Prelude.{◌≡◌, ◌≢◌, ℕ, ◌+◌, ◌<◌, Bool, true, List, length, take, Option, unwrap_or, slice_index, if◌then◌else◌}
 use Rattle.definitions.specs.Network.{NetworkData}
 use Rattle.definitions.specs.Reach.{is_reached}
 use Rattle.label_setting.specs.declared.settling.Settling.{Settling}
+use Rattle.label_setting.specs.declared.settling.TheConstants.{UNBOUNDED}
 use Rattle.label_setting.specs.Queue.{queued}
 use Rattle.label_setting.specs.Partway.{Partway, Sums, Room, Ordered, all_seen, seen_to}
 
@@ -37,7 +38,28 @@ pub record IsMadeFor (net : NetworkData) (state : Settling) : Type 0 where
   pub order : length state.order.items ≡ net.nodes
   pub weights : length state.weights.items ≡ net.nodes
   pub totals : length state.totals.items ≡ net.nodes
+  pub bounds : length state.bounds.items ≡ net.nodes
   pub queue : length state.queue ≡ length net.arcs + net.nodes
+
+-- what a node is bounded by: 0 once it is settled, before that its number, and past all numbers where it has none
+abbrev pub node_bound : Bool → Option ℕ → ℕ
+node_bound settled number = if settled then 0 else unwrap_or number UNBOUNDED
+
+-- each node is bounded so
+pub record AreBounds (net : NetworkData) (marks : List Bool) (queue : List (Option ℕ)) (bounds : List ℕ) : Type 0 where
+  pub each : (node : ℕ) → node < net.nodes → slice_index bounds node ≡ node_bound (is_reached marks node) (queued queue (length net.arcs + node))
+
+-- each node but one is bounded so
+pub record AreBoundsBut (net : NetworkData) (one : ℕ) (marks : List Bool) (queue : List (Option ℕ)) (bounds : List ℕ) : Type 0 where
+  pub others : (node : ℕ) → node < net.nodes → node ≢ one → slice_index bounds node ≡ node_bound (is_reached marks node) (queued queue (length net.arcs + node))
+
+-- each node of a state is bounded so
+abbrev pub IsBounded : NetworkData → Settling → Type 0
+IsBounded net state = AreBounds net state.reached.items state.queue state.bounds.items
+
+-- each node of a state but one is bounded so
+abbrev pub IsBoundedBut : NetworkData → ℕ → Settling → Type 0
+IsBoundedBut net one state = AreBoundsBut net one state.reached.items state.queue state.bounds.items
 
 -- what holds of labels, marks, order, their count, weights, totals and queue, where these arcs into settled nodes were seen and these joined
 pub record Stands (net : NetworkData) (destination : ℕ) (seen joins : ℕ → Bool) (level last : ℕ)

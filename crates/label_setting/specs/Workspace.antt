@@ -33,6 +33,7 @@ pub record IsReady (nodes arcs : ℕ) (state : Settling) : Type 0 where
   pub order : length state.order.items ≡ nodes
   pub weights : length state.weights.items ≡ nodes
   pub totals : length state.totals.items ≡ nodes
+  pub bounds : length state.bounds.items ≡ nodes
   pub queue : length state.queue ≡ arcs + nodes
   pub empty : IsEmpty state.queue
   pub settled : state.settled ≤ nodes

@@ -2,9 +2,9 @@
 
 ghost use Rattle.std.specs.Prelude.{◌≡◌, ◌+◌, ◌<◌, ◌≤◌, ◌-◌, ◌^◌, length, None, Some, IfOk, IfNone, IfSome, IsTrue, IsFalse, is_some, slice_set, replicate, slice_index};
 ghost use Rattle.label_setting.specs.Queue.{queued, IsFirst, IsEmpty, lesser_of};
-ghost use Rattle.label_setting.specs.Heap.{IsQueue, IsPlaced};
+ghost use Rattle.label_setting.specs.Heap.{shown, IsQueue};
 
-use crate::heap::{number_of, sift_down, sift_up};
+use crate::heap::{NO_PLACE, Slot, sift_down, sift_up};
 use std::alloc::{AllocError, Global};
 use std::marker::Model;
 
@@ -20,21 +20,20 @@ pub struct Taken {
 /// A contract sees the list of all items' numbers, `None` for one that is not in the queue.
 #[derive(Drop)]
 pub struct Queue {
-    numbers: Vec<Option<u64>>,
-    heap: Vec<u32>,
+    heap: Vec<Slot>,
     places: Vec<u32>,
     count: u32,
 }
 
 impl Model for Queue {
     ghost use Rattle.std.specs.Prelude.{ℕ, List, Option};
-    ghost use Rattle.label_setting.specs.Heap.{IsQueue};
+    ghost use Rattle.label_setting.specs.Heap.{shown, IsQueue};
 
     ghost Value = { List (Option ℕ) };
 
-    ghost view = { λ q. q.numbers.items };
+    ghost view = { λ q. shown q.heap.items q.places.items q.count };
 
-    ghost invariant = { λ q. IsQueue q.numbers.items q.heap.items q.places.items q.count };
+    ghost invariant = { λ q. IsQueue (shown q.heap.items q.places.items q.count) q.heap.items q.places.items q.count };
 }
 
 impl Queue {
@@ -47,11 +46,9 @@ impl Queue {
         ensures value { IfOk result (λ queue. queue ≡ replicate room None) }
     {
         let n = room as usize;
-        let numbers = vec![in alloc; None; n]?;
-        let heap = vec![in alloc; 0; n]?;
-        let places = vec![in alloc; 0; n]?;
+        let heap = vec![in alloc; Slot { number: 0, item: 0 }; n]?;
+        let places = vec![in alloc; NO_PLACE; n]?;
         Ok(Queue {
-            numbers,
             heap,
             places,
             count: 0,
@@ -63,7 +60,11 @@ impl Queue {
         requires there { item < length self.now }
         ensures value { result ≡ queued self.now item }
     {
-        self.numbers[item as usize]
+        let place = self.places[item as usize];
+        if place < self.count {
+            return Some(self.heap[place as usize].number);
+        }
+        None
     }
 
     /// Sets the number of an item, whether it is in the queue or not.
@@ -71,14 +72,7 @@ impl Queue {
         requires there { item < length self.old }
         ensures value { self.new ≡ slice_set self.old item (Some number) }
     {
-        self.count = put_in(
-            &mut self.numbers,
-            &mut self.heap,
-            &mut self.places,
-            self.count,
-            item,
-            number,
-        );
+        self.count = put_in(&mut self.heap, &mut self.places, self.count, item, number);
     }
 
     /// Lowers the number of an item to `bound` where it is higher, or puts it in with `bound`.
@@ -87,7 +81,7 @@ impl Queue {
         ensures value { self.new ≡ slice_set self.old item (Some (lesser_of (queued self.old item) bound)) }
     {
         match self.number(item) {
-            Some(number) if number < bound => self.put(item, number),
+            Some(number) if number <= bound => {}
             _ => self.put(item, bound),
         }
     }
@@ -103,111 +97,83 @@ impl Queue {
         if self.count == 0 {
             return None;
         }
-        let taken = take_from(
-            &mut self.numbers,
-            &mut self.heap,
-            &mut self.places,
-            self.count,
-        );
+        let taken = take_from(&mut self.heap, &mut self.places, self.count);
         self.count -= 1;
         Some(taken)
     }
 }
 
 // Puts an item in, or changes its number, and answers how many are in.
-fn put_in(
-    numbers: &mut [Option<u64>],
-    heap: &mut [u32],
-    places: &mut [u32],
-    count: u32,
-    item: u32,
-    number: u64,
-) -> u32
-    requires queue { IsQueue numbers.old heap.old places.old count }
-    requires item { item < length numbers.old }
-    ensures queue { IsQueue numbers.new heap.new places.new result }
-    ensures numbers { numbers.new ≡ slice_set numbers.old item (Some number) }
+fn put_in(heap: &mut [Slot], places: &mut [u32], count: u32, item: u32, number: u64) -> u32
+    requires queue { IsQueue (shown heap.old places.old count) heap.old places.old count }
+    requires item { item < length places.old }
+    ensures queue { IsQueue (shown heap.new places.new result) heap.new places.new result }
+    ensures numbers { shown heap.new places.new result ≡ slice_set (shown heap.old places.old count) item (Some number) }
 {
-    let at = item as usize;
-    match numbers[at] {
-        Some(before) => {
-            change(numbers, heap, places, count, item, before, number);
-            count
-        }
-        None => {
-            add(numbers, heap, places, count, item, number);
-            count + 1
-        }
+    if places[item as usize] < count {
+        change(heap, places, count, item, number);
+        return count;
     }
+    add(heap, places, count, item, number);
+    count + 1
 }
 
 // Changes the number of an item.
-fn change(
-    numbers: &mut [Option<u64>],
-    heap: &mut [u32],
-    places: &mut [u32],
-    count: u32,
-    item: u32,
-    before: u64,
-    number: u64,
-)
-    requires queue { IsQueue numbers.old heap.old places.old count }
-    requires before { queued numbers.old item ≡ Some before }
-    ensures queue { IsQueue numbers.new heap.new places.new count }
-    ensures numbers { numbers.new ≡ slice_set numbers.old item (Some number) }
+fn change(heap: &mut [Slot], places: &mut [u32], count: u32, item: u32, number: u64)
+    requires queue { IsQueue (shown heap.old places.old count) heap.old places.old count }
+    requires item { item < length places.old }
+    requires inside { slice_index places.old item < count }
+    ensures queue { IsQueue (shown heap.new places.new count) heap.new places.new count }
+    ensures numbers { shown heap.new places.new count ≡ slice_set (shown heap.old places.old count) item (Some number) }
 {
     let at = places[item as usize] as usize;
-    numbers[item as usize] = Some(number);
+    let before = heap[at].number;
+    heap[at] = Slot { number, item };
     if number <= before {
-        sift_up(numbers, heap, places, count as usize, at);
+        sift_up(heap, places, count as usize, at);
         return;
     }
-    sift_down(numbers, heap, places, count as usize, at);
+    sift_down(heap, places, count as usize, at);
 }
 
 // Puts in an item that is not in.
-fn add(
-    numbers: &mut [Option<u64>],
-    heap: &mut [u32],
-    places: &mut [u32],
-    count: u32,
-    item: u32,
-    number: u64,
-)
-    requires queue { IsQueue numbers.old heap.old places.old count }
-    requires item { item < length numbers.old }
-    requires out { queued numbers.old item ≡ None }
-    ensures queue { IsQueue numbers.new heap.new places.new (count + 1) }
-    ensures numbers { numbers.new ≡ slice_set numbers.old item (Some number) }
+fn add(heap: &mut [Slot], places: &mut [u32], count: u32, item: u32, number: u64)
+    requires queue { IsQueue (shown heap.old places.old count) heap.old places.old count }
+    requires item { item < length places.old }
+    requires outside { count ≤ slice_index places.old item }
+    ensures queue { IsQueue (shown heap.new places.new (count + 1)) heap.new places.new (count + 1) }
+    ensures numbers { shown heap.new places.new (count + 1) ≡ slice_set (shown heap.old places.old count) item (Some number) }
     ensures room { count < 2 ^ 32 - 1 }
 {
     let end = count as usize;
-    heap[end] = item;
+    heap[end] = Slot { number, item };
     places[item as usize] = count;
-    numbers[item as usize] = Some(number);
-    sift_up(numbers, heap, places, end + 1, end);
+    sift_up(heap, places, end + 1, end);
 }
 
 // Takes out the first of some.
-fn take_from(numbers: &mut [Option<u64>], heap: &mut [u32], places: &mut [u32], count: u32) -> Taken
-    requires queue { IsQueue numbers.old heap.old places.old count }
+fn take_from(heap: &mut [Slot], places: &mut [u32], count: u32) -> Taken
+    requires queue { IsQueue (shown heap.old places.old count) heap.old places.old count }
     requires some { 0 < count }
-    ensures queue { IsQueue numbers.new heap.new places.new (count - 1) }
-    ensures first { IsFirst numbers.old result }
-    ensures numbers { numbers.new ≡ slice_set numbers.old result.item None }
+    ensures queue { IsQueue (shown heap.new places.new (count - 1)) heap.new places.new (count - 1) }
+    ensures numbers { shown heap.new places.new (count - 1) ≡ slice_set (shown heap.old places.old count) result.item None }
+    ensures first { IsFirst (shown heap.old places.old count) result }
 {
     let end = count as usize - 1;
-    let item = heap[0];
+    let first = heap[0];
     let last = heap[end];
-    let number = number_of(numbers[item as usize]);
     heap[0] = last;
-    places[last as usize] = 0;
-    numbers[item as usize] = None;
+    places[last.item as usize] = 0;
+    places[first.item as usize] = NO_PLACE;
+    let taken = Taken {
+        item: first.item,
+        number: first.number,
+    };
     if end == 0 {
-        return Taken { item, number };
+        return taken;
     }
-    sift_down(numbers, heap, places, end, 0);
-    Taken { item, number }
+    sift_down(heap, places, end, 0);
+    taken
 }
 
 #[cfg(test)]

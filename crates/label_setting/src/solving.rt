@@ -5,24 +5,26 @@ ghost use Rattle.definitions.specs.declared.limits.TheConstants.{LABEL_LIMIT};
 ghost use Rattle.definitions.specs.Reach.{is_reached, IsReach};
 ghost use Rattle.definitions.specs.Labels.{SolvesLabels, IsOrder};
 ghost use Rattle.label_setting.specs.Queue.{IsEmpty};
-ghost use Rattle.label_setting.specs.Settling.{IsMadeFor, IsToSpread, Settles, mark_in, number_in, order_in};
+ghost use Rattle.label_setting.specs.Settling.{IsMadeFor, IsBounded, IsToSpread, Settles, mark_in, number_in, order_in};
 ghost use Rattle.label_setting.specs.Changes.{IsReset, IsFarthest, IsSpreadFrom};
 ghost use Rattle.label_setting.specs.Partway.{left};
 
-use crate::settling::{Settling, join_open, mark, offer};
+use crate::settling::{Settling, UNBOUNDED, join_open, mark, offer};
 use lp_model::Network;
 
 // Looks at the arcs into a node that was settled with this label.
 fn spread(net: &Network, dest: u32, node: u32, label: u64, state: &mut Settling)
     requires made { IsMadeFor net.now state.old }
+    requires bounded { IsBounded net.now state.old }
     requires label { label < 2 ^ 63 }
     requires spreads { IsToSpread net.now dest node label state.old }
     ensures made { IsMadeFor net.now state.new }
+    ensures bounded { IsBounded net.now state.new }
     ensures settles { Settles net.now dest state.new }
     ensures spread { IsSpreadFrom net.now node state.old state.new }
 {
     net.rules();
-    for arc in net.into(node) {
+    for arc in net.entering(node) {
         offer(net, *arc, label, state);
     }
 }
@@ -30,8 +32,10 @@ fn spread(net: &Network, dest: u32, node: u32, label: u64, state: &mut Settling)
 // Takes what is first in the queue, and settles or joins it. False where the queue is empty.
 fn step(net: &Network, dest: u32, state: &mut Settling) -> bool
     requires made { IsMadeFor net.now state.old }
+    requires bounded { IsBounded net.now state.old }
     requires settles { Settles net.now dest state.old }
     ensures made { IsMadeFor net.now state.new }
+    ensures bounded { IsBounded net.now state.new }
     ensures settles { Settles net.now dest state.new }
     ensures more { IsTrue result → left net.now (mark_in state.new) (number_in state.new) < left net.now (mark_in state.old) (number_in state.old) }
     ensures last { IsFalse result → IsEmpty state.new.queue }
@@ -53,6 +57,7 @@ fn step(net: &Network, dest: u32, state: &mut Settling) -> bool
 // Settles all nodes that reach.
 fn run(net: &Network, dest: u32, state: &mut Settling)
     requires made { IsMadeFor net.now state.old }
+    requires bounded { IsBounded net.now state.old }
     requires settles { Settles net.now dest state.old }
     ensures made { IsMadeFor net.now state.new }
     ensures settles { Settles net.now dest state.new }
@@ -66,11 +71,13 @@ fn reset(net: &Network, state: &mut Settling)
     requires made { IsMadeFor net.now state.old }
     requires empty { IsEmpty state.old.queue }
     ensures made { IsMadeFor net.now state.new }
+    ensures bounded { IsBounded net.now state.new }
     ensures reset { IsReset state.new }
 {
     state.reached.fill(false);
     state.weights.fill(0);
     state.totals.fill(0);
+    state.bounds.fill(UNBOUNDED);
     state.settled = 0;
     // There are no more marks than nodes may be.
     let _nodes = net.nodes();
@@ -82,6 +89,7 @@ fn start(net: &Network, dest: u32, state: &mut Settling)
     requires empty { IsEmpty state.old.queue }
     requires dest { dest < net.now.nodes }
     ensures made { IsMadeFor net.now state.new }
+    ensures bounded { IsBounded net.now state.new }
     ensures settles { Settles net.now dest state.new }
 {
     net.rules();

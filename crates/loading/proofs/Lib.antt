@@ -4,10 +4,12 @@ mod ShareLemmas
 mod CutLemmas
 mod WaitLemmas
 mod SpanLemmas
+mod FlowLemmas
 mod StepLemmas
 mod ChosenLemmas
 mod WeighedLemmas
 mod MiddleLemmas
 mod NoUnitLemmas
+mod ArrivalLemmas
 mod PlanLemmas
 mod BoundLemmas

@@ -10,7 +10,7 @@ use Rattle.definitions.specs.Volumes.{part_of, units_at}
 use Rattle.loading.specs.Loading.{IsLoadedFrom}
 use Rattle.loading.proofs.StepLemmas.{IsByLabel, next_loaded}
 
-either_none : (b : Bool) (z : ℕ) → cond b z z ≡ z
+pub either_none : (b : Bool) (z : ℕ) → cond b z z ≡ z
 either_none true z = refl
 either_none false z = refl
 

@@ -92,16 +92,15 @@ given_out net destination reached labels demand order p v solved by so k low ins
     ])
     ∙ all_sent net destination reached labels solved i (by.inside k inside) away units (λ off. absurd (false≢true (sym off ∙ by.on k inside))) (choice_at net destination reached labels i) (chosen net destination reached labels i)
 
--- the next node has no more units than the demand
-pub next_within : (net : NetworkData) (destination : ℕ) (reached : List Bool) (labels demand order : List ℕ) (p : ℕ) (v : List ℕ) → IsWellFormed net → SolvesLabels net destination reached labels → IsByLabel net reached labels order →
-    length demand ≡ net.nodes → IsLoadedFrom net destination reached labels demand order (p + 1) v → p < length order → units_at net demand v (get_or order p 0) ≤ sum demand
-next_within net destination reached labels demand order p v sound solved by long so lt =
-    let i : ℕ = get_or order p 0 in
-    units_below net reached labels demand v sound long (falls_so_far net destination reached labels demand order (p + 1) v sound by so) i (by.inside p lt)
-    (λ j inside above. elim (place_or_none net reached labels order by (p + 1) j inside) [
+-- so far no node has more units than the demand
+pub all_within : (net : NetworkData) (destination : ℕ) (reached : List Bool) (labels demand order : List ℕ) (p : ℕ) (v : List ℕ) → IsWellFormed net → SolvesLabels net destination reached labels → IsByLabel net reached labels order →
+    length demand ≡ net.nodes → IsLoadedFrom net destination reached labels demand order p v → (i : ℕ) → i < net.nodes → units_at net demand v i ≤ sum demand
+all_within net destination reached labels demand order p v sound solved by long so i lt =
+    units_below net reached labels demand v sound long (falls_so_far net destination reached labels demand order p v sound by so) i lt
+    (λ j inside above. elim (place_or_none net reached labels order by p j inside) [
       | inl w ↦ (
           let away : get_or order w.0 0 ≢ destination = λ at. (let none : get_or labels j 0 ≡ 0 = ap (λ k. get_or labels k 0) (w.3 ∙ at) ∙ solved.zero_at_destination in omega arith) in
-          let all : sum_by (λ a. get_or v a 0) (out_arcs net (get_or order w.0 0)) ≡ units_at net demand v (get_or order w.0 0) = given_out net destination reached labels demand order (p + 1) v solved by so w.0 w.1 w.2 away in
+          let all : sum_by (λ a. get_or v a 0) (out_arcs net (get_or order w.0 0)) ≡ units_at net demand v (get_or order w.0 0) = given_out net destination reached labels demand order p v solved by so w.0 w.1 w.2 away in
           rw w.3 (omega arith))
       | inr none ↦ (
           let nothing : sum_by (λ a. get_or v a 0) (out_arcs net j) ≡ 0 =

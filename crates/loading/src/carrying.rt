@@ -8,16 +8,19 @@ ghost use Rattle.definitions.specs.Network.{tail_of, weight_of, out_arcs};
 ghost use Rattle.definitions.specs.Labels.{SolvesLabels, IsOrder};
 ghost use Rattle.definitions.specs.Split.{share};
 ghost use Rattle.definitions.specs.Choice.{is_attractive, choice_at};
-ghost use Rattle.definitions.specs.Volumes.{part_of, units_at, SolvesVolumes};
+ghost use Rattle.definitions.specs.Volumes.{part_of, SolvesVolumes};
+ghost use Rattle.loading.specs.Arrivals.{HasArrived, GrowsAsFlow};
 ghost use Rattle.loading.specs.Loading.{IsLoadedFrom, weight_among};
 
+use crate::arriving::pass_on;
 use crate::splitting::split;
 use definitions::Choice;
-use lp_model::{Network, flow_in};
+use lp_model::Network;
 use strategy::{attractive, choose};
 
 /// Loads the nodes of an order from its end, in place: each arc gets its part of the units at its
-/// tail. The time is linear but for the splits.
+/// tail, which are then added to what has arrived at its head. `arrived` begins as the demand. The
+/// time is linear but for the splits, and only nodes where units are have their arcs looked at.
 pub fn load_all(
     net: &Network,
     dest: u32,
@@ -26,6 +29,7 @@ pub fn load_all(
     order: &[u32],
     demand: &[u64],
     volumes: &mut [u64],
+    arrived: &mut [u64],
     weights: &mut [u32],
     scratch: &mut [u32],
 )
@@ -39,13 +43,15 @@ pub fn load_all(
     requires weight_per_arc { length weights.old ≡ length net.now.arcs }
     requires scratch_per_arc { length scratch.old ≡ length net.now.arcs }
     requires empty { EachIndex volumes.old (λ arc. slice_index volumes.old arc ≡ 0) }
+    requires begun { arrived.old ≡ demand.now }
     ensures volumes { SolvesVolumes net.now dest reached.now labels.now demand.now volumes.new }
+    ensures arrived { HasArrived net.now demand.now volumes.new arrived.new }
 {
     net.rules();
     for done in 0..order.len() {
         let place = order.len() - 1 - done;
         load_next(
-            net, dest, labels, reached, order, demand, volumes, weights, scratch, place,
+            net, dest, labels, reached, order, demand, volumes, arrived, weights, scratch, place,
         );
     }
 }
@@ -59,6 +65,7 @@ fn load_next(
     order: &[u32],
     demand: &[u64],
     volumes: &mut [u64],
+    arrived: &mut [u64],
     weights: &mut [u32],
     scratch: &mut [u32],
     place: usize,
@@ -73,30 +80,21 @@ fn load_next(
     requires scratch_per_arc { length scratch.old ≡ length net.now.arcs }
     requires place { place < length order.now }
     requires so_far { IsLoadedFrom net.now dest reached.now labels.now demand.now order.now (place + 1) volumes.old }
+    requires arrived { HasArrived net.now demand.now volumes.old arrived.old }
     ensures next { IsLoadedFrom net.now dest reached.now labels.now demand.now order.now place volumes.new }
+    ensures arrived { HasArrived net.now demand.now volumes.new arrived.new }
 {
     net.rules();
     let node = order[place];
-    let units = units_of(net, demand, volumes, node);
+    let units = arrived[node as usize];
     if units > 0 {
         load_node(
-            net, dest, labels, reached, node, units, volumes, weights, scratch,
+            net, dest, labels, reached, node, units, volumes, arrived, weights, scratch,
         );
     }
 }
 
-// The units at a node: its demand and what comes to it.
-fn units_of(net: &Network, demand: &[u64], volumes: &[u64], node: u32) -> u64
-    requires node { node < net.now.nodes }
-    requires demand_per_node { length demand.now ≡ net.now.nodes }
-    requires volume_per_arc { length volumes.now ≡ length net.now.arcs }
-    requires within { units_at net.now demand.now volumes.now node ≤ UNIT_LIMIT }
-    ensures value { result ≡ units_at net.now demand.now volumes.now node }
-{
-    demand[node as usize] + flow_in(net, volumes, node) as u64
-}
-
-// Loads a node: each arc that leaves it gets its part of the units.
+// Loads a node: each arc that leaves it gets its part of the units, which arrive at its head.
 fn load_node(
     net: &Network,
     dest: u32,
@@ -105,6 +103,7 @@ fn load_node(
     node: u32,
     units: u64,
     volumes: &mut [u64],
+    arrived: &mut [u64],
     weights: &mut [u32],
     scratch: &mut [u32],
 )
@@ -117,25 +116,30 @@ fn load_node(
     requires weight_per_arc { length weights.old ≡ length net.now.arcs }
     requires scratch_per_arc { length scratch.old ≡ length net.now.arcs }
     requires empty { (arc : ℕ) → arc < length net.now.arcs → tail_of net.now arc ≡ node → slice_index volumes.old arc ≡ 0 }
+    requires number_per_node { length arrived.old ≡ net.now.nodes }
+    requires within { EachIndex arrived.old (λ other. slice_index arrived.old other ≤ UNIT_LIMIT) }
     ensures loaded { (arc : ℕ) → arc < length net.now.arcs → tail_of net.now arc ≡ node →
         slice_index volumes.new arc ≡ part_of net.now reached.now labels.now (choice_at net.now dest reached.now labels.now node) units arc }
     ensures kept { (arc : ℕ) → arc < length net.now.arcs → tail_of net.now arc ≢ node → slice_index volumes.new arc ≡ slice_index volumes.old arc }
+    ensures passed_on { GrowsAsFlow net.now volumes.old arrived.old volumes.new arrived.new }
 {
+    // A node has no more arcs than there may be.
+    let _few = net.arcs();
     match choose(net, labels, reached, dest, node) {
         Choice::Stop => {}
         Choice::Walk { arc } => {
             leaves(net, dest, labels, reached, node, arc);
             volumes[arc as usize] = units;
+            pass_on(net, arc, 1, volumes, arrived);
         }
         Choice::Wait { count, weight } => {
-            // A node has no more arcs than there may be.
-            let _few = net.arcs();
             let first = net.first(node);
             let many = net.out(node).len() as u32;
             has_weight(net, dest, labels, reached, node, count, weight, first, many);
             load_wait(
                 net, labels, reached, first, many, units, volumes, weights, scratch,
             );
+            pass_on(net, first, many, volumes, arrived);
         }
     }
 }
@@ -190,6 +194,7 @@ fn load_wait(
     ensures loaded { (place : ℕ) → place < many → slice_index volumes.new (first + place) ≡
         (if is_attractive net.now reached.now labels.now (first + place)
         then share units (weight_of net.now) (filter (is_attractive net.now reached.now labels.now) (range_with_len first many)) (first + place) else 0) }
+    ensures all_given { sum_by (slice_index volumes.new) (range_with_len first many) ≡ units }
     ensures kept { (arc : ℕ) → arc < length net.now.arcs → (arc < first) ⊎ (first + many ≤ arc) → slice_index volumes.new arc ≡ slice_index volumes.old arc }
 {
     let start = first as usize;

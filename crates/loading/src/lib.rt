@@ -1,6 +1,7 @@
 //! Splits of whole units, and the volumes and waits that follow from the choices of passengers.
 #![tactic(auto)]
 
+mod arriving;
 mod carrying;
 mod loads;
 mod splitting;

@@ -21,6 +21,7 @@ use std::marker::Model;
 pub struct Loads {
     volumes: Vec<u64>,
     waits: Vec<u128>,
+    arrived: Vec<u64>,
     weights: Vec<u32>,
     scratch: Vec<u32>,
 }
@@ -33,7 +34,7 @@ impl Model for Loads {
 
     ghost view = { λ l. record { volumes = l.volumes.items; waits = l.waits.items } };
 
-    ghost invariant = { λ l. (length l.weights.items ≡ length l.volumes.items) × (length l.scratch.items ≡ length l.volumes.items) };
+    ghost invariant = { λ l. (length l.arrived.items ≡ length l.waits.items) × (length l.weights.items ≡ length l.volumes.items) × (length l.scratch.items ≡ length l.volumes.items) };
 }
 
 impl Loads {
@@ -47,9 +48,11 @@ impl Loads {
         ensures value { IfOk result (λ loads. loads ≡ nothing_loaded net.now) }
     {
         let arcs = net.arcs() as usize;
+        let nodes = net.nodes() as usize;
         Ok(Loads {
             volumes: vec![in alloc; 0u64; arcs]?,
-            waits: vec![in alloc; 0u128; net.nodes() as usize]?,
+            waits: vec![in alloc; 0u128; nodes]?,
+            arrived: vec![in alloc; 0u64; nodes]?,
             weights: vec![in alloc; 0u32; arcs]?,
             scratch: vec![in alloc; 0u32; arcs]?,
         })
@@ -121,6 +124,7 @@ pub fn load(
         demand,
         &mut loads.volumes,
         &mut loads.waits,
+        &mut loads.arrived,
         &mut loads.weights,
         &mut loads.scratch,
     )
@@ -136,6 +140,7 @@ fn load_onto(
     demand: &[u64],
     volumes: &mut [u64],
     waits: &mut [u128],
+    arrived: &mut [u64],
     weights: &mut [u32],
     scratch: &mut [u32],
 ) -> Result<(), Unreachable>
@@ -147,6 +152,7 @@ fn load_onto(
     requires units { sum demand.now ≤ UNIT_LIMIT }
     requires volume_per_arc { length volumes.old ≡ length net.now.arcs }
     requires wait_per_node { length waits.old ≡ net.now.nodes }
+    requires number_per_node { length arrived.old ≡ net.now.nodes }
     requires weight_per_arc { length weights.old ≡ length net.now.arcs }
     requires scratch_per_arc { length scratch.old ≡ length net.now.arcs }
     ensures all_reach { OnOk result (AllReach net.now dest demand.now) }
@@ -162,14 +168,15 @@ fn load_onto(
 {
     net.rules();
     volumes.fill(0);
-    waits.fill(0);
     if let Some(node) = first_unreached(net, demand, reached) {
+        waits.fill(0);
         return Err(Unreachable { node });
     }
+    arrived.copy_from_slice(demand);
     load_all(
-        net, dest, labels, reached, order, demand, volumes, weights, scratch,
+        net, dest, labels, reached, order, demand, volumes, arrived, weights, scratch,
     );
-    set_waits(net, volumes, waits);
+    set_waits(net, volumes, arrived, waits);
     Ok(())
 }
 

@@ -2,21 +2,39 @@
 
 ghost use Rattle.std.specs.Prelude.{◌≡◌, ℕ, ◌+◌, ◌*◌, ◌<◌, ◌≤◌, length, slice_index, IsTrue};
 ghost use Rattle.definitions.specs.declared.limits.TheConstants.{ARC_LIMIT};
-ghost use Rattle.definitions.specs.Network.{weight_of, is_boarding};
+ghost use Rattle.definitions.specs.Network.{tail_of, weight_of, is_boarding};
 ghost use Rattle.definitions.specs.Plan.{IsWaitedFor};
 ghost use Rattle.definitions.specs.Volumes.{IsLongEnough, AreLeastWaits};
 
 use lp_model::Network;
 
 /// Sets the wait of each node (ticks times units) to the least that is long enough for each
-/// boarding arc that leaves it, in linear time.
-pub fn set_waits(net: &Network, volumes: &[u64], waits: &mut [u128])
+/// boarding arc that leaves it, in linear time. The arcs of a node at which no units have arrived
+/// are not looked at.
+pub fn set_waits(net: &Network, volumes: &[u64], arrived: &[u64], waits: &mut [u128])
     requires volume_per_arc { length volumes.now ≡ length net.now.arcs }
+    requires number_per_node { length arrived.now ≡ net.now.nodes }
+    requires idle { (arc : ℕ) → arc < length net.now.arcs → slice_index arrived.now (tail_of net.now arc) ≡ 0 → slice_index volumes.now arc ≡ 0 }
     requires wait_per_node { length waits.old ≡ net.now.nodes }
     ensures value { AreLeastWaits net.now volumes.now waits.new }
 {
     for node in 0..net.nodes() {
-        waits[node as usize] = wait_at(net, volumes, node);
+        waits[node as usize] = wait_with(net, volumes, arrived[node as usize], node);
+    }
+}
+
+// The least wait at a node that is long enough for its arcs, where so many units have arrived.
+fn wait_with(net: &Network, volumes: &[u64], units: u64, node: u32) -> u128
+    requires node { node < net.now.nodes }
+    requires volume_per_arc { length volumes.now ≡ length net.now.arcs }
+    requires idle { units ≡ 0 → (arc : ℕ) → arc < length net.now.arcs → tail_of net.now arc ≡ node → slice_index volumes.now arc ≡ 0 }
+    ensures enough { IsLongEnough net.now volumes.now node result }
+    ensures least { (wait : ℕ) → IsLongEnough net.now volumes.now node wait → result ≤ wait }
+{
+    if units == 0 {
+        0
+    } else {
+        wait_at(net, volumes, node)
     }
 }
 

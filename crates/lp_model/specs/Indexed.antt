@@ -2,14 +2,15 @@
 use Rattle.std.specs.Prelude.{◌≡◌, ℕ, ◌+◌, List, length}
 use Rattle.definitions.specs.Network.{NetworkData, IsNetwork}
 use Rattle.lp_model.specs.declared.grouping.End.TheVariants.{Tail, Head}
-use Rattle.lp_model.specs.Grouping.{AreFirsts, AreGrouped}
+use Rattle.lp_model.specs.Entered.{AreEntering}
+use Rattle.lp_model.specs.Grouping.{AreFirsts}
+use Rattle.lp_model.specs.declared.entering.Entering.{Entering}
 
 -- the first places of each node by tail and by head, and the arcs grouped by head
-pub record IsIndexed (net : NetworkData) (firsts into_arcs into_firsts : List ℕ) : Type 0 where
+pub record IsIndexed (net : NetworkData) (firsts : List ℕ) (entering : List Entering) (entering_firsts : List ℕ) : Type 0 where
   pub rules : IsNetwork net
   pub first_each : length firsts ≡ net.nodes + 1
   pub by_tail : AreFirsts Tail net.arcs firsts
-  pub into_first_each : length into_firsts ≡ net.nodes + 1
-  pub by_head : AreFirsts Head net.arcs into_firsts
-  pub into_arc_each : length into_arcs ≡ length net.arcs
-  pub grouped : AreGrouped Head net.arcs (net.nodes + 1) into_arcs
+  pub entering_first_each : length entering_firsts ≡ net.nodes + 1
+  pub by_head : AreFirsts Head net.arcs entering_firsts
+  pub entered : AreEntering net entering

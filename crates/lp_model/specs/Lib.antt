@@ -1,3 +1,4 @@
+pub mod Entered
 pub mod Faults
 pub mod Grouping
 pub mod Indexed

@@ -2,6 +2,7 @@
 #![tactic(auto)]
 
 mod boarding;
+mod entering;
 mod fault;
 mod grouping;
 mod judging;
@@ -11,6 +12,7 @@ mod wait_constant;
 mod wide_arc;
 
 pub use definitions::NetArc;
+pub use entering::Entering;
 pub use fault::{Limit, NetFault};
 pub use network::Network;
 pub use totals::{bound_of, cost_of, flow_in, flow_out, slack};

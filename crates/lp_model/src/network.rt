@@ -7,10 +7,12 @@ ghost use Rattle.definitions.specs.Network.{IsNetwork, arc_at, out_arcs, in_arcs
 ghost use Rattle.definitions.specs.Gap.{IsEnoughForEach};
 ghost use Rattle.definitions.specs.Totals.{boarding_stops, least_weight, longest_wait};
 ghost use Rattle.lp_model.specs.declared.fault.NetFault.TheVariants.{NoMemory};
+ghost use Rattle.lp_model.specs.Entered.{IsEntering, entering_in};
 ghost use Rattle.lp_model.specs.Faults.{network_faults, first_fault};
 ghost use Rattle.lp_model.specs.Parts.{network_with, first_arc};
 
 use crate::boarding::{has_boarding, least_weight_of};
+use crate::entering::{Entering, entering_of};
 use crate::fault::NetFault;
 use crate::grouping::{End, firsts_of, group, part_of};
 use crate::judging::{judge_arcs, judge_sizes};
@@ -28,8 +30,8 @@ pub struct Network {
     arcs: Vec<NetArc>,
     k: u64,
     firsts: Vec<u32>,
-    into_arcs: Vec<u32>,
-    into_firsts: Vec<u32>,
+    entering: Vec<Entering>,
+    entering_firsts: Vec<u32>,
 }
 
 impl Model for Network {
@@ -41,7 +43,7 @@ impl Model for Network {
 
     ghost view = { λ n. network_with n.nodes n.arcs.items n.k };
 
-    ghost invariant = { λ n. IsIndexed (network_with n.nodes n.arcs.items n.k) n.firsts.items n.into_arcs.items n.into_firsts.items };
+    ghost invariant = { λ n. IsIndexed (network_with n.nodes n.arcs.items n.k) n.firsts.items n.entering.items n.entering_firsts.items };
 }
 
 impl Network {
@@ -132,14 +134,14 @@ impl Network {
         self.arcs_from(n)
     }
 
-    /// The numbers of the arcs that enter node `n`, increasing.
-    pub fn into(&self, n: u32) -> &[u32]
+    /// The arcs that enter node `n`, by increasing number.
+    pub fn entering(&self, n: u32) -> &[Entering]
         requires { n < self.now.nodes }
-        ensures value { result.now ≡ in_arcs self.now n }
-        ensures there { All (λ arc. arc < length self.now.arcs) result.now }
+        ensures value { result.now ≡ map (entering_in self.now.arcs) (in_arcs self.now n) }
+        ensures there { All (IsEntering self.now) result.now }
         ensures within { length result.now ≤ length self.now.arcs }
     {
-        part_of(&self.into_arcs, &self.into_firsts, n)
+        part_of(&self.entering, &self.entering_firsts, n)
     }
 
     /// How many nodes have a boarding arc, in linear time.
@@ -193,15 +195,16 @@ fn index(nodes: u32, arcs: Vec<NetArc>, k: u64) -> Result<Network, AllocError>
 {
     let alloc = *arcs.allocator();
     let firsts = firsts_of(alloc, nodes, &arcs, End::Tail)?;
-    let into_firsts = firsts_of(alloc, nodes, &arcs, End::Head)?;
-    let into_arcs = group(alloc, &arcs, End::Head, &into_firsts)?;
+    let entering_firsts = firsts_of(alloc, nodes, &arcs, End::Head)?;
+    let numbers = group(alloc, &arcs, End::Head, &entering_firsts)?;
+    let entering = entering_of(alloc, &arcs, &numbers)?;
     Ok(Network {
         nodes,
         arcs,
         k,
         firsts,
-        into_arcs,
-        into_firsts,
+        entering,
+        entering_firsts,
     })
 }
 

@@ -7,6 +7,7 @@ ghost use Rattle.definitions.specs.Plan.{flow_out_of, flow_into, cost_of_plan};
 ghost use Rattle.definitions.specs.Dual.{bound_of_labels};
 ghost use Rattle.definitions.specs.Totals.{slack_of};
 
+use crate::entering::Entering;
 use crate::network::Network;
 
 /// The cost of flows and waits: each arc's cost times its flow, and the waits (ticks times units).
@@ -127,19 +128,19 @@ pub fn flow_in(net: &Network, v: &[u64], n: u32) -> u128
 {
     // A node has no more arcs than there may be.
     let _arcs = net.arcs();
-    sum_at(v, net.into(n))
+    sum_at(v, net.entering(n))
 }
 
 // The sum of the flows of some arcs.
-fn sum_at(flows: &[u64], arcs: &[u32]) -> u128
+fn sum_at(flows: &[u64], arcs: &[Entering]) -> u128
     requires few { length arcs.now ≤ ARC_LIMIT }
-    requires there { All (λ arc. arc < length flows.now) arcs.now }
-    ensures value { result ≡ sum_by (slice_index flows.now) arcs.now }
+    requires there { All (λ arc. arc.arc < length flows.now) arcs.now }
+    ensures value { result ≡ sum_by (λ arc. slice_index flows.now arc.arc) arcs.now }
     ensures within { result < 2 ^ 96 }
 {
     let mut total = 0u128;
     for arc in arcs {
-        total += flows[*arc as usize] as u128;
+        total += flows[arc.arc as usize] as u128;
     }
     total
 }

@@ -1,10 +1,11 @@
 use Rattle.label_setting.specs.Partway.{left}
-use Rattle.label_setting.specs.Settling.{IsMadeFor, Settles, mark_in, number_in}
+use Rattle.label_setting.specs.Settling.{IsMadeFor, IsBounded, Settles, mark_in, number_in}
 use Rattle.label_setting.proofs.solving.run.Given as goal
 
 abbrev pub invariant-loop : goal.invariant-loop
 invariant-loop l = record {
   made : IsMadeFor l.net l.state;
+  bounded : IsBounded l.net l.state;
   settles : Settles l.net l.dest l.state;
 }
 

@@ -10,14 +10,14 @@ use Rattle.lp_model.proofs.network.Network.arcs_from.Goals as goal
 pub part_of-requires-clause-rises : goal.part_of-requires-clause-rises
 part_of-requires-clause-rises c =
     let indexed = rw c.self.view_is at c.self.invariant in
-    let next = out_next c.args.self.now c.self.inside.firsts.items c.self.inside.into_arcs.items c.self.inside.into_firsts.items c.args.n indexed c.requires in
+    let next = out_next c.args.self.now c.self.inside.firsts.items c.self.inside.entering.items c.self.inside.entering_firsts.items c.args.n indexed c.requires in
     rw c.deref-2.ensures.value (omega (arith, next))
 
 pub part_of-requires-clause-within : goal.part_of-requires-clause-within
 part_of-requires-clause-within c =
     let indexed = rw c.self.view_is at c.self.invariant in
-    let next = out_next c.args.self.now c.self.inside.firsts.items c.self.inside.into_arcs.items c.self.inside.into_firsts.items c.args.n indexed c.requires in
-    let within = out_within c.args.self.now c.self.inside.firsts.items c.self.inside.into_arcs.items c.self.inside.into_firsts.items c.args.n indexed c.requires in
+    let next = out_next c.args.self.now c.self.inside.firsts.items c.self.inside.entering.items c.self.inside.entering_firsts.items c.args.n indexed c.requires in
+    let within = out_within c.args.self.now c.self.inside.firsts.items c.self.inside.entering.items c.self.inside.entering_firsts.items c.args.n indexed c.requires in
     let arcs : c.self.inside.arcs.items ≡ c.args.self.now.arcs = ap (λ net. net.arcs) c.self.view_is in
     rw (c.deref-2.ensures.value, c.deref.ensures.value, arcs) (omega (arith, next, within))
 
@@ -26,7 +26,7 @@ returns-clause-arcs c =
     let indexed = rw c.self.view_is at c.self.invariant in
     let arcs : c.self.inside.arcs.items ≡ c.args.self.now.arcs = ap (λ net. net.arcs) c.self.view_is in
     rw (c.part_of.ensures.value, c.deref-2.ensures.value, c.deref.ensures.value, arcs)
-    (out_part c.args.self.now c.self.inside.firsts.items c.self.inside.into_arcs.items c.self.inside.into_firsts.items c.args.n indexed c.requires)
+    (out_part c.args.self.now c.self.inside.firsts.items c.self.inside.entering.items c.self.inside.entering_firsts.items c.args.n indexed c.requires)
 
 pub returns-clause-numbers : goal.returns-clause-numbers
 returns-clause-numbers c =

@@ -10,5 +10,5 @@ returns-clause-within c =
     omega (
       arith,
       get_or_read c.self.inside.firsts.items c.args.n c.index.result.now there c.index.ensures 0,
-      out_within c.args.self.now c.self.inside.firsts.items c.self.inside.into_arcs.items c.self.inside.into_firsts.items c.args.n indexed c.requires,
+      out_within c.args.self.now c.self.inside.firsts.items c.self.inside.entering.items c.self.inside.entering_firsts.items c.args.n indexed c.requires,
     )
