@@ -25,6 +25,7 @@ use Rattle.network.specs.Sources.{Sources, zone_count}
 use Rattle.network.proofs.BoardedLemmas.{boardings_have_weight}
 use Rattle.network.proofs.CountLemmas.{first_stays, no_first}
 use Rattle.network.proofs.FaultLemmas.{limit_kept, network_kept}
+use Rattle.network.proofs.JoinLemmas.{arcs_join}
 use Rattle.network.proofs.NetworkLemmas.{network_rules, within_from}
 use Rattle.network.proofs.NodeLemmas.{node_count, node_stands}
 use Rattle.network.proofs.NumberLemmas.{node_numbered}
@@ -67,8 +68,8 @@ only_memory sources nodes arcs k found are_nodes are_arcs ok none most (inr e) =
     absurd (no_first (network_faults (network_with nodes arcs k)) found (ap network_faults same ∙ no_net_fault sources k ok none most) e)
 
 -- the city keeps the laws of cities
-pub city_rules : (sources : Sources) (k : ℕ) → IsCity (city_of sources k)
-city_rules sources k =
+pub city_rules : (sources : Sources) (k : ℕ) → AreSources sources → IsCity (city_of sources k)
+city_rules sources k ok =
     let count = node_count sources in
     record {
       node_each = refl;
@@ -77,20 +78,22 @@ city_rules sources k =
       origins = λ zone lt. node_stands sources (node.Origin zone) lt;
       goals = λ zone lt. node_stands sources (node.Goal zone) lt;
       boardings = boardings_have_weight sources k;
+      distinct = λ one other kind here there. sym (node_numbered sources one kind here).numbered ∙ (node_numbered sources other kind there).numbered;
+      joins = λ number lt. arcs_join sources k number ok lt;
     }
 
 -- and so does one of the same parts
-pub made_rules : (sources : Sources) (k : ℕ) (network : NetworkData) (zones : ℕ) (nodes : List NodeKind) (arcs : List ArcKind) (kept : List KeptLine) → network ≡ network_of sources k →
+pub made_rules : (sources : Sources) (k : ℕ) (network : NetworkData) (zones : ℕ) (nodes : List NodeKind) (arcs : List ArcKind) (kept : List KeptLine) → AreSources sources → network ≡ network_of sources k →
     zones ≡ zone_count sources → nodes ≡ nodes_of sources → arcs ≡ map (λ (found : CityArc). found.kind) (arcs_of sources) → kept ≡ kept_lines sources →
     IsCity (city_with network zones nodes arcs kept)
-made_rules sources k network zones nodes arcs kept one two three four five =
+made_rules sources k network zones nodes arcs kept ok one two three four five =
     let same : city_with network zones nodes arcs kept ≡ city_of sources k =
     ap (λ x. city_with x zones nodes arcs kept) one
     ∙ ap (λ x. city_with (network_of sources k) x nodes arcs kept) two
     ∙ ap (λ x. city_with (network_of sources k) (zone_count sources) x arcs kept) three
     ∙ ap (λ x. city_with (network_of sources k) (zone_count sources) (nodes_of sources) x kept) four
     ∙ ap (λ x. city_with (network_of sources k) (zone_count sources) (nodes_of sources) (map (λ (found : CityArc). found.kind) (arcs_of sources)) x) five in
-    subst IsCity (sym same) (city_rules sources k)
+    subst IsCity (sym same) (city_rules sources k ok)
 
 -- each node of the city has the number of what it stands for
 pub made_numbered : (sources : Sources) (k : ℕ) (city : CityData) → city ≡ city_of sources k → (place : ℕ) (kind : NodeKind) → slice_get city.nodes place ≡ Some kind → number_of sources kind ≡ place

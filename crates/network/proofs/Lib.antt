@@ -11,6 +11,7 @@ pub mod CountLemmas
 pub mod FaultLemmas
 pub mod FitLemmas
 pub mod GroupLemmas
+pub mod JoinLemmas
 pub mod KeptLemmas
 pub mod KeyLemmas
 pub mod KeyedLemmas
@@ -22,6 +23,7 @@ pub mod PartLemmas
 pub mod PlaceLemmas
 pub mod RulingLemmas
 pub mod StandLemmas
+pub mod StandingLemmas
 pub mod StationLemmas
 pub mod TownLemmas
 pub mod WalkLemmas

@@ -7,11 +7,13 @@ pub mod Cities
 pub mod Conditions
 pub mod Faults
 pub mod Groups
+pub mod Joins
 pub mod Kept
 pub mod Kinds
 pub mod Nodes
 pub mod Parts
 pub mod Sources
+pub mod Standing
 pub mod Stations
 pub mod StopWalks
 pub mod Towns

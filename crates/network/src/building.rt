@@ -9,6 +9,7 @@ ghost use Rattle.network.specs.Built.{AreNodesAndArcs, arcs_faults};
 ghost use Rattle.network.specs.Faults.{IsFirstFault, city_faults, node_faults};
 ghost use Rattle.network.specs.Nodes.{kept_lines, nodes_of, number_of};
 ghost use Rattle.network.specs.Sources.{sources_with};
+ghost use Rattle.network.specs.Standing.{IsCityOf};
 ghost use Rattle.network.specs.declared.fault.BuildFault.TheVariants as fault;
 ghost use Rattle.network.specs.declared.kinds.NodeKind.{NodeKind};
 ghost use Rattle.scenarios.specs.Tariffs.{KeepsTicks, scenario_in};
@@ -70,6 +71,9 @@ pub fn build<F: Fn(u32, Layer) -> u64>(
         → slice_get city.nodes place ≡ Some kind
         → number_of (sources_with feed.now lines.now.lines zones.now walks.now scenario.now) kind
         ≡ place) }
+
+    // There is a node for each stop of the feed and each place of a kept line.
+    ensures stands { IfOk result (λ city. IsCityOf city feed.now lines.now.lines) }
 {
     let given = Given::new(feed, lines, zones, walks, scenario);
     let kept = kept_lines(alloc, &given)?;
@@ -131,6 +135,7 @@ fn city_of(
 {
     let NodesAndArcs { nodes, arcs } = parts;
     let CityArcs { arcs, kinds } = arcs;
+    given.rules();
     let net = network_of(given, nodes.len() as u32, arcs, k)?;
     Ok(CityNet::of(net, given.zones(), nodes, kinds, kept))
 }
