@@ -1,2 +1,10 @@
+pub mod FirstArcLemmas
+pub mod JoinFacts
+pub mod LoadLemmas
+pub mod NodeArcLemmas
+pub mod PageLemmas
+pub mod PlaceLemmas
+pub mod SortLemmas
+pub mod TableLemmas
 pub mod TextLemmas
 pub mod VolumeLemmas

@@ -1,9 +1,10 @@
 //! Sums of volumes by what arcs stand for.
 
-ghost use Rattle.std.specs.Prelude.{◌≡◌, ◌≤◌, Bool, length, if◌then◌else◌};
+ghost use Rattle.std.specs.Prelude.{◌≡◌, ◌≤◌, Bool, length};
 ghost use Rattle.line_report.specs.Volumes.{volume_where};
 ghost use Rattle.network.specs.Kinds.{is_boarding_kind, is_transfer_kind};
 
+use crate::sums::volume_if;
 use network::{ArcKind, CityNet};
 
 /// The units that board, for the first time or later.
@@ -44,12 +45,4 @@ fn changes(kind: ArcKind) -> bool
     ensures value { result ≡ is_transfer_kind kind }
 {
     matches!(kind, ArcKind::BoardLater)
-}
-
-// A volume, where it counts.
-fn volume_if(counts: bool, volume: u64) -> u128
-    ensures value { result ≡ if counts then volume else 0 }
-    ensures within { result ≤ 18446744073709551615 }
-{
-    if counts { u128::from(volume) } else { 0 }
 }

@@ -1,9 +1,7 @@
 //! The summary of a small city, worked out by docs/FORMATS.md.
 
-mod city;
-
 use super::*;
-use city::city_of;
+use crate::tests::city::{TWO_LINES, sample_of};
 use desk_io::MemorySink;
 use loading::Volumes;
 use std::test::Fail;
@@ -47,7 +45,8 @@ const COUNTS: Counts = Counts {
 
 // Writes the summary to a sink.
 fn write(alloc: Global, sink: &mut MemorySink) -> Result<Result<(), ReportFault>, Fail> {
-    let city = city_of(alloc)?;
+    let sample = sample_of(alloc, &TWO_LINES)?;
+    let city = &sample.city;
     if city.net().arcs() != 14 {
         return Err("14 arcs".into());
     }
@@ -59,7 +58,7 @@ fn write(alloc: Global, sink: &mut MemorySink) -> Result<Result<(), ReportFault>
         slack: 1_800_020,
         volumes: Volumes::new(VOLUMES.to_vec(alloc)?),
     };
-    Ok(summary(alloc, sink, &city, &totals, &COUNTS))
+    Ok(summary(alloc, sink, city, &totals, &COUNTS))
 }
 
 #[test]

@@ -1,4 +1,4 @@
-use Rattle.line_report.proofs.summarising.tests.city.city_of.Goals as goal
+use Rattle.line_report.proofs.tests.city.sample_of.Goals as goal
 
 pub build-requires-clause-sources : goal.build-requires-clause-sources
 build-requires-clause-sources c = record {

@@ -1,0 +1,11 @@
+use Rattle.std.proofs.Common.{◌≡◌, ◌≤◌, ◌*◌}
+use Rattle.std.specs.List.{range_with_len, sum_by}
+use Rattle.line_report.specs.Passengers.{transferred}
+use Rattle.line_report.proofs.table.Table.transferred_in_all.Given as goal
+
+-- the sum over the places so far
+abbrev pub invariant-loop-place : goal.invariant-loop-place
+invariant-loop-place l = record {
+  value : l.units ≡ sum_by (transferred l.self.city l.self.volumes l.kept) (range_with_len 0 l.place);
+  within : l.units ≤ l.place * (4194304 * 18446744073709551615);
+}
