@@ -1,0 +1,5 @@
+pub mod Parts
+pub mod ChosenPaths
+pub mod Totals
+pub mod Skims
+pub mod Filling
