@@ -34,7 +34,7 @@ one_loaded net destination reached labels demand volumes waits others flows leas
     }
 
 -- a zone has one visit at most
-one_visit : (city : CityData) (pairs : List Pair) (zone : ℕ) (a b : Visit) → IsVisitOf city pairs zone a → IsVisitOf city pairs zone b → a ≡ b
+pub one_visit : (city : CityData) (pairs : List Pair) (zone : ℕ) (a b : Visit) → IsVisitOf city pairs zone a → IsVisitOf city pairs zone b → a ≡ b
 one_visit city pairs zone a b h g =
     let destination : a.destination ≡ b.destination = h.destination ∙ sym g.destination in
     let demand : a.demand ≡ b.demand = h.demand ∙ sym g.demand in

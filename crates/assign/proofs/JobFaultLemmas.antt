@@ -1,22 +1,32 @@
 -- The first of the faults of a job.
-use Rattle.std.proofs.Common.{◌≡◌, ℕ, List, [], ◌∷◌, ◌++◌, ◌⊎◌, Option, None, Some, map, refl, sym, ap, ◌∙◌, inl, inr, subst}
+use Rattle.std.proofs.Common.{◌≡◌, ℕ, Bool, true, false, cond, List, [], ◌∷◌, ◌++◌, ◌⊎◌, Option, None, Some, map, refl, sym, ap, ◌∙◌, inl, inr, subst}
 use Rattle.std.specs.Prelude.{slice_get}
 use Rattle.std.specs.Option.{option_map_or}
 use Rattle.feed_reader.specs.Feed.{FeedData}
+use Rattle.feed_reader.specs.Ids.{is_known}
 use Rattle.feed_reader.specs.declared.fault.FeedFault.{FeedFault}
 use Rattle.feed_reader.specs.declared.fault.FeedFault.TheVariants as feed_fault
+use Rattle.headways.specs.declared.fault.Limit as line
+use Rattle.headways.specs.declared.fault.Limit.TheVariants as line_limit
 use Rattle.headways.specs.declared.fault.LineFault.{LineFault}
 use Rattle.headways.specs.declared.fault.LineFault.TheVariants as line_fault
 use Rattle.demand.specs.declared.fault.DemandFault.{DemandFault}
+use Rattle.demand.specs.declared.fault.Limit as table
+use Rattle.demand.specs.declared.fault.Limit.TheVariants as table_limit
 use Rattle.demand.specs.declared.fault.DemandFault.TheVariants as demand_fault
 use Rattle.scenarios.specs.declared.fault.ScenarioFault.{ScenarioFault}
 use Rattle.scenarios.specs.declared.fault.ScenarioFault.TheVariants as scenario_fault
 use Rattle.network.specs.declared.fault.BuildFault.{BuildFault}
+use Rattle.network.specs.declared.fault.Limit as network
+use Rattle.network.specs.declared.fault.Limit.TheVariants as network_limit
 use Rattle.network.specs.declared.fault.BuildFault.TheVariants as build_fault
-use Rattle.assign.specs.JobFaults.{HasCause, IsFirstFault, IsFirstOf, faults_behind, faults_of_demand, faults_of_edits, faults_of_lines, faults_of_network, faults_of_scenario, faults_of_tables, faults_of_walk_table, faults_of_walks, faults_of_zones}
-use Rattle.assign.specs.PartFaults.{from_feed, from_lines, from_network, from_scenario, from_table}
+use Rattle.assign.specs.JobFaults.{HasCause, IsFirstFault, IsFirstOf, faults_behind, faults_of_demand, faults_of_edits, faults_of_lines, faults_of_network, faults_of_scenario, faults_of_tables, faults_of_walk_table, faults_of_walks, faults_of_zone, faults_of_zone_word, faults_of_zones, zone_word}
+use Rattle.assign.specs.PartFaults.{from_feed, from_lines, from_network, from_scenario, from_table, limit_of_line, limit_of_network, limit_of_table}
 use Rattle.assign.specs.JobSteps.{IsRefusedEarly}
-use Rattle.assign.specs.Jobs.{JobData}
+use Rattle.assign.specs.Jobs.{JobData, zones_in}
+use Rattle.assign.specs.Reports.{too_long}
+use Rattle.assign.specs.declared.job_fault.Limit.{Limit}
+use Rattle.assign.specs.declared.job_fault.Limit.TheVariants as limit
 use Rattle.assign.specs.declared.job_fault.JobFault.{JobFault}
 use Rattle.assign.specs.declared.job_fault.JobFault.TheVariants as fault
 
@@ -51,16 +61,39 @@ behind front rest e none h = rw none h
 pub both_none : (front rest : List JobFault) → front ≡ [] → rest ≡ [] → front ++ rest ≡ []
 both_none front rest a b = rw (a, b) refl
 
--- the first fault of the second of four parts, and of the third
+-- the first fault of the first of four parts, of the second, and of the third
+pub first_of_four : (a b c d : List JobFault) (e : JobFault) → IsFirstFault a e → IsFirstFault (a ++ b ++ c ++ d) e
+first_of_four a b c d e h = in_front (a ++ b ++ c) d e (in_front (a ++ b) c e (in_front a b e h))
+
 pub second_of_four : (a b c d : List JobFault) (e : JobFault) → a ≡ [] → IsFirstFault b e → IsFirstFault (a ++ b ++ c ++ d) e
 second_of_four a b c d e none h = in_front (a ++ b ++ c) d e (in_front (a ++ b) c e (behind a b e none h))
 
 pub third_of_four : (a b c d : List JobFault) (e : JobFault) → a ≡ [] → b ≡ [] → IsFirstFault c e → IsFirstFault (a ++ b ++ c ++ d) e
 third_of_four a b c d e none more h = in_front (a ++ b ++ c) d e (behind (a ++ b) c e (both_none a b none more) h)
 
--- the first fault of the second of three parts
-pub second_of_three : (a b c : List JobFault) (e : JobFault) → a ≡ [] → IsFirstFault b e → IsFirstFault (a ++ b ++ c) e
-second_of_three a b c e none h = in_front (a ++ b) c e (behind a b e none h)
+-- a limit of a part of a job: all but that of a document
+abbrev IsPartLimit : Limit → Type 0
+IsPartLimit limit.Zones = Unit
+IsPartLimit limit.Units = Unit
+IsPartLimit limit.Weight = Unit
+IsPartLimit limit.Cost = Unit
+IsPartLimit limit.Nodes = Unit
+IsPartLimit limit.Arcs = Unit
+IsPartLimit limit.Document = ⊥
+
+table_part : (name : table.Limit) → IsPartLimit (limit_of_table name)
+table_part table_limit.Zones = tt
+table_part table_limit.Units = tt
+
+line_part : (name : line.Limit) → IsPartLimit (limit_of_line name)
+line_part line_limit.Weight = tt
+line_part line_limit.Cost = tt
+
+network_part : (name : network.Limit) → IsPartLimit (limit_of_network name)
+network_part network_limit.Weight = tt
+network_part network_limit.Nodes = tt
+network_part network_limit.Arcs = tt
+network_part network_limit.Cost = tt
 
 -- what is answered before the reach is judged
 abbrev IsEarly : JobFault → Type 0
@@ -68,7 +101,7 @@ IsEarly fault.NoMemory = Unit
 IsEarly (fault.Feed found) = Unit
 IsEarly (fault.Demand found) = Unit
 IsEarly (fault.Scenario found) = Unit
-IsEarly (fault.Range name count) = Unit
+IsEarly (fault.Range name count) = IsPartLimit name
 IsEarly (fault.Unreachable origin destination) = ⊥
 IsEarly (fault.WriteFault sent) = ⊥
 
@@ -99,7 +132,7 @@ feed_early (feed_fault.BadHeadway place) = tt
 
 table_early : (found : DemandFault) → IsEarly (from_table found)
 table_early demand_fault.NoMemory = tt
-table_early (demand_fault.Range name count) = tt
+table_early (demand_fault.Range name count) = table_part name
 table_early (demand_fault.Row row) = tt
 table_early (demand_fault.UnknownZone place) = tt
 table_early (demand_fault.UnknownStop place) = tt
@@ -112,11 +145,19 @@ scenario_early (scenario_fault.BadValue place) = tt
 
 lines_early : (found : LineFault) → IsEarly (from_lines found)
 lines_early line_fault.NoMemory = tt
-lines_early (line_fault.Range name count) = tt
+lines_early (line_fault.Range name count) = line_part name
 
 network_early : (found : BuildFault) → IsEarly (from_network found)
 network_early build_fault.NoMemory = tt
-network_early (build_fault.Range name count) = tt
+network_early (build_fault.Range name count) = network_part name
+
+-- a fault that is answered where a test fails is early where it is
+zone_early : (names : List (List ℕ)) (id : List ℕ) → BeginsEarly (faults_of_zone_word names id)
+zone_early names id = by_test (is_known names id)
+  where
+    by_test : (known : Bool) → BeginsEarly (cond known [] (fault.Demand (demand_fault.UnknownZone (zone_word id)) ∷ []))
+    by_test true e h = absurd (cc h)
+    by_test false e h = let same : fault.Demand (demand_fault.UnknownZone (zone_word id)) ≡ e = cc h in subst IsEarly same tt
 
 behind_early : (job : JobData) (feed : FeedData) → BeginsEarly (faults_behind job feed)
 behind_early job feed =
@@ -124,13 +165,16 @@ behind_early job feed =
     let walks : BeginsEarly (faults_of_walks job feed) = early_optional (faults_of_walk_table feed) job.walks (λ bytes. early_mapped from_table _ table_early) in
     let demand : BeginsEarly (faults_of_demand job feed) = early_mapped from_table _ table_early in
     let scenario : BeginsEarly (faults_of_scenario job feed) = early_optional (faults_of_edits feed) job.scenario (λ bytes. early_mapped from_scenario _ scenario_early) in
+    let zone : BeginsEarly (faults_of_zone job feed) = early_optional (faults_of_zone_word (zones_in job feed).names) job.to_zone (zone_early (zones_in job feed).names) in
     let lines : BeginsEarly (faults_of_lines job feed) = early_mapped from_lines _ lines_early in
     let network : BeginsEarly (faults_of_network job feed) = early_mapped from_network _ network_early in
-    early_both (faults_of_tables job feed ++ faults_of_lines job feed) (faults_of_network job feed)
-    (early_both (faults_of_tables job feed) (faults_of_lines job feed)
-    (early_both (faults_of_zones job feed ++ faults_of_walks job feed ++ faults_of_demand job feed) (faults_of_scenario job feed)
+    let tables : BeginsEarly (faults_of_tables job feed) =
+    early_both (faults_of_zones job feed ++ faults_of_walks job feed ++ faults_of_demand job feed) (faults_of_scenario job feed)
     (early_both (faults_of_zones job feed ++ faults_of_walks job feed) (faults_of_demand job feed) (early_both (faults_of_zones job feed) (faults_of_walks job feed) zones walks) demand)
-    scenario) lines) network
+    scenario in
+    early_both (faults_of_tables job feed ++ faults_of_zone job feed ++ faults_of_lines job feed) (faults_of_network job feed)
+    (early_both (faults_of_tables job feed ++ faults_of_zone job feed) (faults_of_lines job feed)
+    (early_both (faults_of_tables job feed) (faults_of_zone job feed) tables zone) lines) network
 
 first_early : (job : JobData) (e : JobFault) → IsFirstOf job e → IsEarly e
 first_early job e (inl h) = early_mapped from_feed _ feed_early e h
@@ -156,3 +200,8 @@ early_cause job (fault.WriteFault sent) (inr h) = absurd (first_early job (fault
 pub early_unsent : (job : JobData) (sent : ℕ) → IsRefusedEarly job (fault.WriteFault sent) → ⊥
 early_unsent job sent (inl h) = cc h
 early_unsent job sent (inr h) = first_early job (fault.WriteFault sent) h
+
+-- nor that of reports that are longer than a document
+pub early_short : (job : JobData) → IsRefusedEarly job too_long → ⊥
+early_short job (inl h) = cc h
+early_short job (inr h) = first_early job too_long h

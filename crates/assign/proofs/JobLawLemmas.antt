@@ -1,43 +1,125 @@
 -- A job has one outcome at most.
-use Rattle.std.proofs.Common.{◌≡◌, ℕ, ◌<◌, List, [], ◌∷◌, Some, map, length, take, get_or, sym, ap, ◌∙◌, inl, inr, subst, arith}
+use Rattle.std.proofs.Common.{◌≡◌, ℕ, ◌<◌, List, [], ◌∷◌, ◌++◌, Option, Some, map, length, take, get_or, sym, ap, ◌∙◌, inl, inr, subst, arith}
 use Rattle.std.specs.Prelude.{slice_get}
 use Rattle.std.proofs.lemmas.Bool.{cases_order}
-use Rattle.std.proofs.lemmas.List.{get_or-take, length-take-le}
+use Rattle.std.proofs.lemmas.List.{append-nil, get_or-take, length-take-le, take_all}
+use Rattle.certificate.specs.Spelling.{spelling}
 use Rattle.std.proofs.lemmas.Option.{get_or_from_slice_get, slice_get_within}
 use Rattle.demand.specs.declared.tables.Pair.{Pair}
 use Rattle.feed_reader.specs.Feed.{FeedData, IsFeedOf, feed_faults}
 use Rattle.feed_reader.specs.declared.fault.FeedFault.{FeedFault}
-use Rattle.line_report.specs.Summary.{summary_text}
-use Rattle.line_report.specs.declared.counts.Counts.{Counts}
 use Rattle.loading.specs.declared.totals.Totals.{Totals}
 use Rattle.network.specs.Cities.{CityData}
+use Rattle.skims.specs.Totals.{PartsAreOne}
 use Rattle.assign.specs.JobFaults.{HasCity, HasUnreachedPair, IsFaultless, IsFirstBehind, IsFirstOf, IsUnreachedPair, faults_behind}
 use Rattle.assign.specs.PartFaults.{from_feed}
-use Rattle.assign.specs.JobLaws.{NeverBoth, OneFault, OneSummary, OneUnreachable, SummaryIsFaultless}
-use Rattle.assign.specs.Jobs.{JobData, city_in, counts_in, pairs_in, zones_in}
-use Rattle.assign.specs.Printed.{IsSummaryWith}
+use Rattle.assign.specs.JobLaws.{NeverBoth, OneFault, OnePrint, OneUnreachable, PrintIsBegun, PrintIsFaultless, WholeBegins}
+use Rattle.assign.specs.Jobs.{JobData, city_in, data_in, pairs_in, zone_in, zones_in}
+use Rattle.assign.specs.Printed.{BeginsPrintFrom, IsPrintFrom, IsPrintWith}
+use Rattle.assign.specs.Prints.{IsCertificateAsked, IsPrint, PrintData, certificate_in, skimmed_zones}
 use Rattle.assign.specs.Reached.{AllPairsReach, IsFirstUnreached, PairReaches}
+use Rattle.assign.specs.Visits.{IsVisitOf, Visit}
 use Rattle.assign.specs.declared.job_fault.JobFault.{JobFault}
-use Rattle.assign.proofs.AssignmentLemmas.{one_assignment}
+use Rattle.assign.specs.declared.print.Print.{Print}
+use Rattle.assign.specs.declared.print.Print.TheVariants as print
+use Rattle.assign.proofs.AssignmentLemmas.{one_assignment, one_visit}
 use Rattle.assign.proofs.JobFeedLemmas.{one_feed}
+use Rattle.assign.proofs.SkimLemmas.{begins_skim_table, one_skim_table}
 
--- a city with counts has one summary at most
-one_text : (city : CityData) (pairs : List Pair) (counts : Counts) (bytes others : List ℕ) → IsSummaryWith city pairs counts bytes → IsSummaryWith city pairs counts others → bytes ≡ others
-one_text city pairs counts bytes others h g =
-    let totals : h.totals ≡ g.totals = one_assignment city pairs h.totals g.totals h.assigned g.assigned in
-    h.is_text ∙ ap (λ (some : Totals). summary_text city some counts) totals ∙ sym g.is_text
+-- ---- what is printed
 
--- a job has one summary at most
-pub one_summary : OneSummary
-one_summary job bytes others h g =
+-- the certificate of the zone that is asked for is one
+one_certificate : (source : PrintData) (asked : Option ℕ) (bytes others : List ℕ) → IsCertificateAsked source asked bytes → IsCertificateAsked source asked others → bytes ≡ others
+one_certificate source asked bytes others h g =
+    let first = h.is_asked in
+    let second = g.is_asked in
+    let zone : h.zone ≡ g.zone = cc (first, second) in
+    let is_visit : IsVisitOf source.city source.pairs g.zone h.is_certificate.visit = subst (λ (zone : ℕ). IsVisitOf source.city source.pairs zone h.is_certificate.visit) zone h.is_certificate.is_visit in
+    let visit : h.is_certificate.visit ≡ g.is_certificate.visit = one_visit source.city source.pairs g.zone h.is_certificate.visit g.is_certificate.visit is_visit g.is_certificate.is_visit in
+    h.is_certificate.is_text ∙ ap (λ (visit : Visit). spelling (certificate_in source.city visit)) visit ∙ sym g.is_certificate.is_text
+
+-- totals are printed in one way
+one_text : PartsAreOne → (source : PrintData) (asked : Option ℕ) (zones : List ℕ) (totals : Totals) (what : Print) (bytes others : List ℕ) → IsPrint source asked zones totals what bytes →
+    IsPrint source asked zones totals what others → bytes ≡ others
+one_text law source asked zones totals print.Summary bytes others h g = h ∙ sym g
+one_text law source asked zones totals print.Lines bytes others h g = h ∙ sym g
+one_text law source asked zones totals print.Stops bytes others h g = h ∙ sym g
+one_text law source asked zones totals print.Segments bytes others h g = h ∙ sym g
+one_text law source asked zones totals print.Skims bytes others h g = one_skim_table law source.city source.names zones bytes others h g
+one_text law source asked zones totals print.Certificate bytes others h g = one_certificate source asked bytes others h g
+one_text law source asked zones totals print.All bytes others h g = h ∙ sym g
+
+-- two texts that are one begin each other
+same_begins : (begun bytes : List ℕ) → bytes ≡ begun → (rest : List ℕ) × (bytes ≡ begun ++ rest)
+same_begins begun bytes same = ([], same ∙ sym (append-nil begun))
+
+-- the text of totals to some first zones begins that to all
+begins_text : PartsAreOne → (source : PrintData) (asked : Option ℕ) (count : ℕ) (zones : List ℕ) (totals : Totals) (what : Print) (begun bytes : List ℕ) →
+    IsPrint source asked (take count zones) totals what begun → IsPrint source asked zones totals what bytes → (rest : List ℕ) × (bytes ≡ begun ++ rest)
+begins_text law source asked count zones totals print.Summary begun bytes h g = same_begins begun bytes (g ∙ sym h)
+begins_text law source asked count zones totals print.Lines begun bytes h g = same_begins begun bytes (g ∙ sym h)
+begins_text law source asked count zones totals print.Stops begun bytes h g = same_begins begun bytes (g ∙ sym h)
+begins_text law source asked count zones totals print.Segments begun bytes h g = same_begins begun bytes (g ∙ sym h)
+begins_text law source asked count zones totals print.Skims begun bytes h g = begins_skim_table law source.city source.names count zones begun bytes h g
+begins_text law source asked count zones totals print.Certificate begun bytes h g = same_begins begun bytes (one_certificate source asked bytes begun g h)
+begins_text law source asked count zones totals print.All begun bytes h g = same_begins begun bytes (g ∙ sym h)
+
+-- what is printed of data is one
+one_print_from : PartsAreOne → (source : PrintData) (asked : Option ℕ) (zones : List ℕ) (what : Print) (bytes others : List ℕ) → IsPrintWith source asked zones what bytes →
+    IsPrintWith source asked zones what others → bytes ≡ others
+one_print_from law source asked zones what bytes others h g =
+    let totals : h.totals ≡ g.totals = one_assignment source.city source.pairs h.totals g.totals h.assigned g.assigned in
+    let is : IsPrint source asked zones g.totals what bytes = subst (λ (some : Totals). IsPrint source asked zones some what bytes) totals h.is_print in
+    one_text law source asked zones g.totals what bytes others is g.is_print
+
+-- and what begins it are its first bytes
+begins_print_from : PartsAreOne → (source : PrintData) (asked : Option ℕ) (what : Print) (begun bytes : List ℕ) → BeginsPrintFrom source asked what begun → IsPrintFrom source asked what bytes →
+    (rest : List ℕ) × (bytes ≡ begun ++ rest)
+begins_print_from law source asked what begun bytes h g =
+    let some = h.is_print in
+    let zones : List ℕ = skimmed_zones source asked in
+    let totals : some.totals ≡ g.totals = one_assignment source.city source.pairs some.totals g.totals some.assigned g.assigned in
+    let is : IsPrint source asked (take h.zones zones) g.totals what begun = subst (λ (of : Totals). IsPrint source asked (take h.zones zones) of what begun) totals some.is_print in
+    begins_text law source asked h.zones zones g.totals what begun bytes is g.is_print
+
+-- what is printed of data begins itself
+pub whole_begins_from : (source : PrintData) (asked : Option ℕ) (what : Print) (bytes : List ℕ) → IsPrintFrom source asked what bytes → BeginsPrintFrom source asked what bytes
+whole_begins_from source asked what bytes h =
+    let zones : List ℕ = skimmed_zones source asked in
+    record {
+      zones = length zones;
+      is_print = subst (λ (some : List ℕ). IsPrintWith source asked some what bytes) (sym (take_all (length zones) zones (omega arith))) h;
+    }
+
+-- a job prints one text at most
+pub one_print : PartsAreOne → OnePrint
+one_print law job bytes others h g =
     let feed : h.feed ≡ g.feed = one_feed job.files h.feed g.feed h.has_city.is_feed g.has_city.is_feed in
-    let is : IsSummaryWith (city_in job g.feed) (pairs_in job g.feed) (counts_in job g.feed) bytes =
-    subst (λ (some : FeedData). IsSummaryWith (city_in job some) (pairs_in job some) (counts_in job some) bytes) feed h.is_summary in
-    one_text (city_in job g.feed) (pairs_in job g.feed) (counts_in job g.feed) bytes others is g.is_summary
+    let is : IsPrintFrom (data_in job g.feed) (zone_in job g.feed) job.print bytes =
+    subst (λ (some : FeedData). IsPrintFrom (data_in job some) (zone_in job some) job.print bytes) feed h.is_print in
+    one_print_from law (data_in job g.feed) (zone_in job g.feed) (skimmed_zones (data_in job g.feed) (zone_in job g.feed)) job.print bytes others is g.is_print
 
--- a job with a summary is faultless
-pub summary_is_faultless : SummaryIsFaultless
-summary_is_faultless job bytes h = record { feed = h.feed; has_city = h.has_city; reach = h.is_summary.all_reach }
+-- what begins the print of a job are its first bytes
+pub print_is_begun : PartsAreOne → PrintIsBegun
+print_is_begun law job begun bytes h g =
+    let feed : h.feed ≡ g.feed = one_feed job.files h.feed g.feed h.has_city.is_feed g.has_city.is_feed in
+    let begins : BeginsPrintFrom (data_in job g.feed) (zone_in job g.feed) job.print begun =
+    subst (λ (some : FeedData). BeginsPrintFrom (data_in job some) (zone_in job some) job.print begun) feed h.begins in
+    begins_print_from law (data_in job g.feed) (zone_in job g.feed) job.print begun bytes begins g.is_print
+
+-- the print of a job begins it
+pub whole_begins : WholeBegins
+whole_begins job bytes h = record {
+  feed = h.feed;
+  has_city = h.has_city;
+  begins = whole_begins_from (data_in job h.feed) (zone_in job h.feed) job.print bytes h.is_print;
+}
+
+-- a job that prints, or begins to, is faultless
+pub print_is_faultless : PrintIsFaultless
+print_is_faultless job bytes h = record { feed = h.feed; has_city = h.has_city; reach = h.begins.is_print.all_reach }
+
+-- ---- faults
 
 -- of no faults none is the first, handed on or not
 none_first : (faults : List JobFault) (answer : JobFault) → faults ≡ [] → slice_get faults 0 ≡ Some answer → ⊥

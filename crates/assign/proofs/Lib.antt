@@ -1,7 +1,11 @@
 pub mod ArrivalLemmas
 pub mod AssignmentLemmas
 pub mod BoundLemmas
+pub mod CertificateLemmas
+pub mod ConservedLemmas
 pub mod DemandLemmas
+pub mod DocumentLemmas
+pub mod HubLemmas
 pub mod JobFaultLemmas
 pub mod JobFeedLemmas
 pub mod JobLawLemmas
@@ -9,7 +13,10 @@ pub mod JobLemmas
 pub mod MarkLemmas
 pub mod PairLemmas
 pub mod PlanLemmas
+pub mod PrintLemmas
 pub mod ReachLemmas
+pub mod SkimLemmas
+pub mod SkimSending
 pub mod SumLemmas
 pub mod WayLemmas
 pub mod ZoneLemmas

@@ -26,13 +26,18 @@ pub reach_more : (city : CityData) (pairs : List Pair) (place : ℕ) → place <
 reach_more city pairs place lt here before =
     subst (All (PairReaches city)) (sym (take_more pairs place no_pair lt)) (All-push (PairReaches city) (take place pairs) (get_or pairs place no_pair) before here)
 
+-- an origin of a pair within the span of a zone that reaches the goal there
+pub pair_reaches : (city : CityData) (pairs : List Pair) (zone from to place : ℕ) → IsSpanOf pairs zone from to → from ≤ place → place < to →
+    Reaches city.net (goal_of city zone) (get_or pairs place no_pair).origin → PairReaches city (get_or pairs place no_pair)
+pair_reaches city pairs zone from to place span low high way =
+    subst (λ (d : ℕ). Reaches city.net (goal_of city d) (get_or pairs place no_pair).origin) (sym (leads_there pairs zone from to place span low high)) way
+
 -- a marked origin of a pair within the span of a zone
 pub marked_reaches : (city : CityData) (pairs : List Pair) (zone from to place : ℕ) (reached : List Bool) → IsSpanOf pairs zone from to → from ≤ place → place < to →
     IsReach city.net (goal_of city zone) reached → (get_or pairs place no_pair).origin < city.net.nodes → is_reached reached (get_or pairs place no_pair).origin ≡ true →
     PairReaches city (get_or pairs place no_pair)
 marked_reaches city pairs zone from to place reached span low high marks lt on =
-    let there : zone ≡ destination_at pairs place = sym (leads_there pairs zone from to place span low high) in
-    subst (λ (d : ℕ). Reaches city.net (goal_of city d) (get_or pairs place no_pair).origin) there ((marks.exact (get_or pairs place no_pair).origin lt).0 on)
+    pair_reaches city pairs zone from to place span low high ((marks.exact (get_or pairs place no_pair).origin lt).0 on)
 
 -- behind the pairs of all zones there is no pair
 pub parts_end : (pairs : List Pair) (zones place : ℕ) → ArePairs zones pairs → PartsAt pairs zones place → place ≡ length pairs

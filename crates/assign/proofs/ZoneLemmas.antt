@@ -51,7 +51,7 @@ shown_more (Some told) mid new visits visit first next =
     subst (λ (o : Option (List Visit)). AreShown o new (visit ∷ [])) first next ∙ ap Some (append_assoc told visits (visit ∷ []))
 
 -- one more on both sides
-zip_more : {A B : Type 0} (R : A → B → Type 0) (xs : List A) (ys : List B) (x : A) (y : B) → AllZip R xs ys → R x y → AllZip R (xs ++ x ∷ []) (ys ++ y ∷ [])
+pub zip_more : {A B : Type 0} (R : A → B → Type 0) (xs : List A) (ys : List B) (x : A) (y : B) → AllZip R xs ys → R x y → AllZip R (xs ++ x ∷ []) (ys ++ y ∷ [])
 zip_more R [] [] x y all here = (here, tt)
 zip_more R [] (b ∷ ys) x y all here = absurd all
 zip_more R (a ∷ xs) [] x y all here = absurd all

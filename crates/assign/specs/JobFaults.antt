@@ -1,14 +1,17 @@
 -- The faults of a job, in the order in which the first of them is answered. Here: docs/FORMATS.md.
-use Rattle.std.specs.Prelude.{◌≡◌, ◌⊎◌, ◌++◌, ℕ, List, [], Some, map, slice_get}
+use Rattle.std.specs.Prelude.{◌≡◌, ◌⊎◌, ◌++◌, ℕ, List, [], ◌∷◌, Some, codes, if◌then◌else◌, map, slice_get}
 use Rattle.std.specs.Option.{option_map_or}
 use Rattle.gtfs_rows.specs.Sheets.{sheet_of}
+use Rattle.gtfs_rows.specs.declared.place.Place.{Place}
 use Rattle.feed_reader.specs.Feed.{FeedData, IsFeedOf, feed_faults}
+use Rattle.feed_reader.specs.Ids.{is_known}
 use Rattle.headways.specs.Faults as headways
 use Rattle.demand.specs.Columns.{demand_columns, demand_file, walk_columns, walks_file, zone_columns, zones_file}
 use Rattle.demand.specs.Demands.{demand_faults}
 use Rattle.demand.specs.Faults.{table_faults}
 use Rattle.demand.specs.Walks.{walks_faults}
 use Rattle.demand.specs.Zones.{ids_of, zones_faults}
+use Rattle.demand.specs.declared.fault.DemandFault.TheVariants as demand_fault
 use Rattle.demand.specs.declared.tables.Pair.{Pair}
 use Rattle.scenarios.specs.Faults.{scenario_faults}
 use Rattle.scenarios.specs.Feeds.{route_ids, stop_ids}
@@ -48,6 +51,18 @@ faults_of_scenario job feed = option_map_or (faults_of_edits feed) job.scenario 
 abbrev pub faults_of_tables : JobData → FeedData → List JobFault
 faults_of_tables job feed = faults_of_zones job feed ++ faults_of_walks job feed ++ faults_of_demand job feed ++ faults_of_scenario job feed
 
+-- the place of the id of a zone among the words of a command
+abbrev pub zone_word : List ℕ → Place
+zone_word id = record { file = codes "words"; row = 0; column = codes "to-zone"; field = id }
+
+-- the faults of the id of a zone: that it is none of these
+abbrev pub faults_of_zone_word : List (List ℕ) → List ℕ → List JobFault
+faults_of_zone_word names id = if is_known names id then [] else fault.Demand (demand_fault.UnknownZone (zone_word id)) ∷ []
+
+-- the faults of the zone that a job asks for, none where it asks for none
+abbrev pub faults_of_zone : JobData → FeedData → List JobFault
+faults_of_zone job feed = option_map_or (faults_of_zone_word (zones_in job feed).names) job.to_zone []
+
 -- the faults of the lines of a job
 abbrev pub faults_of_lines : JobData → FeedData → List JobFault
 faults_of_lines job feed = map from_lines (headways.faults_of feed job.period)
@@ -56,9 +71,9 @@ faults_of_lines job feed = map from_lines (headways.faults_of feed job.period)
 abbrev pub faults_of_network : JobData → FeedData → List JobFault
 faults_of_network job feed = map from_network (city_faults (sources_in job feed))
 
--- the faults of a job behind those of its feed: of the tables, of the lines, and of the network
+-- the faults of a job behind those of its feed: of the tables, of the zone that it asks for, of the lines, and of the network
 abbrev pub faults_behind : JobData → FeedData → List JobFault
-faults_behind job feed = faults_of_tables job feed ++ faults_of_lines job feed ++ faults_of_network job feed
+faults_behind job feed = faults_of_tables job feed ++ faults_of_zone job feed ++ faults_of_lines job feed ++ faults_of_network job feed
 
 -- the answer is the first of these faults; want of memory may come in its place
 abbrev pub IsFirstFault : List JobFault → JobFault → Type 0

@@ -1,22 +1,30 @@
 -- Laws of jobs, over their definitions alone: the files of a feed make one feed, and a job has one outcome at most.
-use Rattle.std.specs.Prelude.{◌≡◌, ℕ, List}
+use Rattle.std.specs.Prelude.{◌≡◌, ◌++◌, ℕ, List}
 use Rattle.feed_reader.specs.Feed.{FeedData, FilesData, IsFeedOf}
 use Rattle.assign.specs.JobFaults.{HasUnreachedPair, IsFaultless, IsFirstOf}
 use Rattle.assign.specs.Jobs.{JobData}
-use Rattle.assign.specs.Printed.{IsSummaryOf}
+use Rattle.assign.specs.Printed.{BeginsPrintOf, IsPrintOf}
 use Rattle.assign.specs.declared.job_fault.JobFault.{JobFault}
 
 -- files make one feed at most
 abbrev pub OneFeed : Type 0
 OneFeed = (files : FilesData) (feed other : FeedData) → IsFeedOf files feed → IsFeedOf files other → feed ≡ other
 
--- a job has one summary at most
-abbrev pub OneSummary : Type 0
-OneSummary = (job : JobData) (bytes others : List ℕ) → IsSummaryOf job bytes → IsSummaryOf job others → bytes ≡ others
+-- a job prints one text at most
+abbrev pub OnePrint : Type 0
+OnePrint = (job : JobData) (bytes others : List ℕ) → IsPrintOf job bytes → IsPrintOf job others → bytes ≡ others
 
--- a job with a summary is faultless
-abbrev pub SummaryIsFaultless : Type 0
-SummaryIsFaultless = (job : JobData) (bytes : List ℕ) → IsSummaryOf job bytes → IsFaultless job
+-- what begins the print of a job are its first bytes
+abbrev pub PrintIsBegun : Type 0
+PrintIsBegun = (job : JobData) (begun bytes : List ℕ) → BeginsPrintOf job begun → IsPrintOf job bytes → (rest : List ℕ) × (bytes ≡ begun ++ rest)
+
+-- the print of a job begins it
+abbrev pub WholeBegins : Type 0
+WholeBegins = (job : JobData) (bytes : List ℕ) → IsPrintOf job bytes → BeginsPrintOf job bytes
+
+-- a job that prints, or begins to, is faultless
+abbrev pub PrintIsFaultless : Type 0
+PrintIsFaultless = (job : JobData) (bytes : List ℕ) → BeginsPrintOf job bytes → IsFaultless job
 
 -- a job has one first fault at most
 abbrev pub OneFault : Type 0

@@ -1,21 +1,21 @@
 -- A job on its way: its tables read, and its city built.
-use Rattle.std.specs.Prelude.{◌≡◌, ◌⊎◌, ℕ, ◌≤◌, List, Option, All, length}
-use Rattle.desk_io.specs.Told.{Appends}
+use Rattle.std.specs.Prelude.{◌≡◌, ◌⊎◌, ℕ, ◌<◌, ◌≤◌, List, Option, Some, All, IsSome, length, take}
 use Rattle.feed_reader.specs.Feed.{FeedData}
 use Rattle.demand.specs.Laws.{IsLinkAmong, IsPairAmong, IsWalkAmong}
 use Rattle.demand.specs.declared.limits.TheConstants.{ZONE_LIMIT}
 use Rattle.demand.specs.declared.tables.Pair.{Pair}
-use Rattle.line_report.specs.Summary.{summary_text}
 use Rattle.loading.specs.declared.totals.Totals.{Totals}
 use Rattle.network.specs.Cities.{CityData}
+use Rattle.network.specs.Standing.{IsCityOf}
 use Rattle.scenarios.specs.Feeds.{IsOfFeed}
 use Rattle.assign.specs.JobFaults.{HasCity, IsFirstOf, IsUnreachedPair}
-use Rattle.assign.specs.Jobs.{JobData, city_in, counts_in, demand_in, scenario_of_job, walks_in, zones_in}
-use Rattle.assign.specs.Printed.{AreTotalsOfCity, IsSummaryWith}
+use Rattle.assign.specs.Jobs.{JobData, data_in, demand_in, scenario_of_job, walks_in, zone_in, zones_in}
+use Rattle.assign.specs.Prints.{IsPrint, PrintData, skimmed_zones}
 use Rattle.assign.specs.Reached.{AllPairsReach}
 use Rattle.assign.specs.declared.job_fault.JobFault.{JobFault}
 use Rattle.assign.specs.declared.job_fault.JobFault.TheVariants as fault
 use Rattle.assign.specs.declared.preparing.Prepared.{Prepared}
+use Rattle.assign.specs.declared.print.Print.{Print}
 use Rattle.assign.specs.declared.tables.Tables.{Tables}
 
 -- the tables are those of a job over a feed, and their numbers name zones and stops
@@ -30,14 +30,31 @@ pub record AreTablesOf (job : JobData) (feed : FeedData) (tables : Tables) : Typ
   pub pairs : All (IsPairAmong (length tables.zones.names)) tables.demand.pairs
   pub same_size : IsOfFeed feed tables.scenario
 
--- what was prepared of a job over a feed: its zones and demand, its city, and what was counted
-pub record IsPreparedOver (job : JobData) (feed : FeedData) (prepared : Prepared) : Type 0 where
-  pub zones : prepared.tables.zones ≡ zones_in job feed
-  pub demand : prepared.tables.demand ≡ demand_in job feed
-  pub city : prepared.city ≡ city_in job feed
-  pub counts : prepared.counts ≡ counts_in job feed
-  pub pairs : All (IsPairAmong (length prepared.tables.zones.names)) prepared.tables.demand.pairs
+-- what is printed from, of what was prepared
+abbrev pub data_of : Prepared → PrintData
+data_of prepared = record {
+  city = prepared.city;
+  feed = prepared.feed;
+  lines = prepared.lines.lines;
+  names = prepared.tables.zones.names;
+  pairs = prepared.tables.demand.pairs;
+  counts = prepared.counts;
+}
+
+-- what was prepared can be printed: its pairs join its zones, its city is one of its feed and its lines, and a zone that is asked for is one of its zones
+pub record IsPrintable (prepared : Prepared) : Type 0 where
+  pub pairs : All (IsPairAmong prepared.city.zones) prepared.tables.demand.pairs
   pub zone_each : prepared.city.zones ≡ length prepared.tables.zones.names
+  pub stands : IsCityOf prepared.city prepared.feed prepared.lines.lines
+  pub zone_there : (zone : ℕ) → prepared.zone ≡ Some zone → zone < prepared.city.zones
+
+-- what was prepared of a job over a feed: what is printed from, the units of its demand, and the zone that it asks for, which is there where it asks for one
+pub record IsPreparedOver (job : JobData) (feed : FeedData) (prepared : Prepared) : Type 0 where
+  pub from : data_of prepared ≡ data_in job feed
+  pub units : prepared.tables.demand.units ≡ (demand_in job feed).units
+  pub zone : prepared.zone ≡ zone_in job feed
+  pub asked : IsSome job.to_zone → IsSome prepared.zone
+  pub printable : IsPrintable prepared
 
 -- this was prepared of a job, which is accepted
 pub record IsPreparedOf (job : JobData) (prepared : Prepared) : Type 0 where
@@ -69,13 +86,11 @@ IsUnprinted prepared (fault.Demand found) = ⊥
 IsUnprinted prepared (fault.Scenario found) = ⊥
 IsUnprinted prepared (fault.Range name count) = ⊥
 
--- bytes are the summary of what was prepared
-abbrev pub IsSummaryFrom : Prepared → List ℕ → Type 0
-IsSummaryFrom prepared bytes = IsSummaryWith prepared.city prepared.tables.demand.pairs prepared.counts bytes
+-- bytes are all that is printed of these totals
+abbrev pub IsWholeOf : PrintData → Option ℕ → Totals → Print → List ℕ → Type 0
+IsWholeOf source asked totals print bytes = IsPrint source asked (skimmed_zones source asked) totals print bytes
 
--- the summary of what was prepared stands behind what was written before, where that is told, and its totals are those of the city, with all units of the demand
-pub record PrintsTotalsFrom (prepared : Prepared) (old new : Option (List ℕ)) : Type 0 where
-  pub totals : Totals
-  pub are_totals : AreTotalsOfCity prepared.city prepared.tables.demand.pairs totals
-  pub all_units : totals.units ≡ prepared.tables.demand.units
-  pub appended : Appends old new (summary_text prepared.city totals prepared.counts)
+-- bytes begin what is printed of these totals: of skims they are those to some first zones
+pub record BeginsTotals (source : PrintData) (asked : Option ℕ) (totals : Totals) (print : Print) (bytes : List ℕ) : Type 0 where
+  pub zones : ℕ
+  pub is_print : IsPrint source asked (take zones (skimmed_zones source asked)) totals print bytes

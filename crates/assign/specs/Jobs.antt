@@ -1,9 +1,10 @@
--- A job: the files of a feed, the tables of a demand, and a period. What they stand for, step by step. Here: docs/FORMATS.md.
+-- A job: the files of a feed, the tables of a demand, a period, and what is printed. What they stand for, step by step. Here: docs/FORMATS.md.
 use Rattle.std.specs.Prelude.{◌-◌, ℕ, List, [], Option, length}
-use Rattle.std.specs.Option.{option_map_or}
+use Rattle.std.specs.Option.{option_and_then, option_map_or}
 use Rattle.gtfs_rows.specs.Sheets.{sheet_of}
 use Rattle.feed_reader.specs.Faults.{Fields}
 use Rattle.feed_reader.specs.Feed.{FeedData, FilesData}
+use Rattle.feed_reader.specs.Ids.{number_of}
 use Rattle.service_period.specs.Periods.{PeriodData}
 use Rattle.headways.specs.Lines.{count_of, lines_of}
 use Rattle.demand.specs.Columns.{demand_columns, walk_columns, zone_columns}
@@ -19,8 +20,12 @@ use Rattle.lp_model.specs.WaitConstant.{wait_constant}
 use Rattle.network.specs.Cities.{CityData, city_of}
 use Rattle.network.specs.Sources.{Sources, sources_with}
 use Rattle.line_report.specs.declared.counts.Counts.{Counts}
+use Rattle.assign.specs.Prints.{PrintData}
+use Rattle.assign.specs.declared.print.Print.{Print}
+use Rattle.assign.specs.declared.print.Print.TheVariants as print
 
--- what a job is made of: the files of a feed, the bytes of its tables, of which walks and a scenario need not be there, and a period
+-- what a job is made of: the files of a feed, the bytes of its tables, of which walks and a scenario need not be there, a period, what is printed,
+-- and the id of the zone to which it leads, where one is asked for
 pub record JobData : Type 0 where
   pub files : FilesData
   pub zones : List ℕ
@@ -28,6 +33,8 @@ pub record JobData : Type 0 where
   pub demand : List ℕ
   pub scenario : Option (List ℕ)
   pub period : PeriodData
+  pub print : Print
+  pub to_zone : Option (List ℕ)
 
 -- the zones of a job over a feed
 abbrev pub zones_in : JobData → FeedData → ZonesData
@@ -84,3 +91,22 @@ counts_in job feed = record {
   inside = (demand_in job feed).inside;
   dropped = (demand_in job feed).dropped;
 }
+
+-- the number of the zone that a job asks for, where it asks for one of its zones
+abbrev pub zone_in : JobData → FeedData → Option ℕ
+zone_in job feed = option_and_then (number_of (zones_in job feed).names) job.to_zone
+
+-- what a job prints from, over a feed
+abbrev pub data_in : JobData → FeedData → PrintData
+data_in job feed = record {
+  city = city_in job feed;
+  feed = feed;
+  lines = lines_of feed job.period;
+  names = (zones_in job feed).names;
+  pairs = pairs_in job feed;
+  counts = counts_in job feed;
+}
+
+-- a job that prints all its reports, and is otherwise the same
+abbrev pub printing_all : JobData → JobData
+printing_all job = record job { print = print.All }

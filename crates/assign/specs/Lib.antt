@@ -11,8 +11,13 @@ pub mod PartFaults
 pub mod Partway
 pub mod Plans
 pub mod Printed
+pub mod Prints
 pub mod Reached
+pub mod Reports
 pub mod Rooms
+pub mod SkimSteps
+pub mod SkimTables
 pub mod Spans
 pub mod Sums
 pub mod Visits
+pub mod Ways

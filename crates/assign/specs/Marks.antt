@@ -1,4 +1,4 @@
--- Nodes marked on the way back from a destination.
+-- Nodes marked on the way back from a destination, or on the way on from a node.
 use Rattle.std.specs.Prelude.{◌≡◌, ℕ, ◌<◌, ◌≤◌, ◌⊎◌, Bool, List, IsTrue, if◌then◌else◌, length, slice_index, sum_by}
 use Rattle.definitions.specs.Network.{NetworkData, head_of, tail_of}
 use Rattle.definitions.specs.Reach.{Reaches, is_reached}
@@ -44,18 +44,26 @@ pub record Marks (these : ℕ → Type 0) (old new : Marking) : Type 0 where
   pub same_places : (place : ℕ) → place < old.count → found_at new place ≡ found_at old place
   pub rises : old.count ≤ new.count
 
--- an arc that leads to a node leaves this one
-pub record IsTailTo (net : NetworkData) (node tail : ℕ) : Type 0 where
+-- an arc with one end at a node has the other end at this one
+pub record IsAcross (net : NetworkData) (near far : ℕ → ℕ) (node other : ℕ) : Type 0 where
   pub arc : ℕ
   pub there : arc < length net.arcs
-  pub leads : head_of net arc ≡ node
-  pub leaves : tail_of net arc ≡ tail
+  pub here : near arc ≡ node
+  pub beyond : far arc ≡ other
 
--- one of the first of some arcs leaves a node
-pub record IsTailAmong (net : NetworkData) (arcs : List ℕ) (count tail : ℕ) : Type 0 where
+-- an arc that leads to a node leaves this one
+abbrev pub IsTailTo : NetworkData → ℕ → ℕ → Type 0
+IsTailTo net node tail = IsAcross net (head_of net) (tail_of net) node tail
+
+-- an arc that leaves a node leads to this one
+abbrev pub IsHeadFrom : NetworkData → ℕ → ℕ → Type 0
+IsHeadFrom net node head = IsAcross net (tail_of net) (head_of net) node head
+
+-- one of the first of some arcs has this node at its far end
+pub record IsEndAmong (far : ℕ → ℕ) (arcs : List ℕ) (count node : ℕ) : Type 0 where
   pub place : ℕ
   pub before : place < count
-  pub leaves : tail_of net (slice_index arcs place) ≡ tail
+  pub beyond : far (slice_index arcs place) ≡ node
 
 -- the marked nodes reach a destination, which is one of them; the tails of all arcs to the first ones are marked too
 pub record AreOnTheWay (net : NetworkData) (destination done : ℕ) (marking : Marking) : Type 0 where
@@ -65,3 +73,10 @@ pub record AreOnTheWay (net : NetworkData) (destination done : ℕ) (marking : M
   pub reaching : (node : ℕ) → IsTrue (is_marked marking node) → Reaches net destination node
   pub within : done ≤ marking.count
   pub closed : (place tail : ℕ) → place < done → IsTailTo net (found_at marking place) tail → IsTrue (is_marked marking tail)
+
+-- the marked nodes are reached from a node, and the first ones of them were looked at
+pub record AreReachedFrom (net : NetworkData) (node done : ℕ) (marking : Marking) : Type 0 where
+  pub are_found : AreFound marking
+  pub places : HasPlaces net marking
+  pub reached : (other : ℕ) → IsTrue (is_marked marking other) → Reaches net other node
+  pub within : done ≤ marking.count

@@ -4,6 +4,7 @@ ghost use Rattle.std.specs.Prelude.{◌≡◌, ◌≢◌, ◌+◌, ◌<◌, ◌�
 ghost use Rattle.std.specs.List.{list_any};
 ghost use Rattle.definitions.specs.Causes.{Rose};
 ghost use Rattle.demand.specs.Laws.{IsPairAmong};
+ghost use Rattle.line_report.specs.OnBoard.{AreConserved};
 ghost use Rattle.assign.specs.Assignments.{IsAssignment, IsShownAssignment, StopsEarly};
 ghost use Rattle.assign.specs.Bounds.{IsWithinBoardings, NoPlansAreCheaper};
 ghost use Rattle.assign.specs.Conditions.{ArePairs};
@@ -17,12 +18,12 @@ ghost use Rattle.assign.specs.Visits.{IsVisitOf, goal_of, leads_to};
 ghost use Rattle.assign.specs.declared.fault.AssignFault.TheVariants as fault;
 
 use crate::fault::AssignFault;
-use crate::marking::Marking;
 use crate::reaching::first_unreached;
 use crate::room::{Room, fill_for};
 use crate::spans::end_of;
 use crate::sums::{Sums, add};
 use crate::visitor::Visitor;
+use crate::ways::Ways;
 use demand::{Demand, Pair};
 use desk_io::{Counted, Failed};
 use loading::Totals;
@@ -166,15 +167,19 @@ pub fn assign<V: Visitor>(
     ensures gap_within_boardings { IfOk result (λ totals. (assignment : IsAssignment city.now demand.now.pairs totals)
         → IsWithinBoardings city.now.net totals assignment.visits) }
     ensures gap_within_slack { IfOk result (λ totals. totals.cost ≤ totals.bound + totals.slack) }
+
+    // What comes in at a node, other than one where passengers begin or end, goes out of it.
+    ensures in_and_out { IfOk result (λ totals. AreConserved city.now totals.volumes) }
 {
+    city.rules();
     let net = city.net();
     let pairs = demand.pairs();
     // The units are within their limit.
     let _units = demand.units();
-    let mut marking = Marking::new(alloc, net)?;
+    let mut ways = Ways::new(alloc, net)?;
     let mut room = Room::new(alloc, net)?;
     let mut sums = Sums::new(alloc, net)?;
-    if let Some(pair) = first_unreached(city, pairs, &mut marking) {
+    if let Some(pair) = first_unreached(city, pairs, &mut ways) {
         return Err(AssignFault::Unreachable {
             origin: pair.origin,
             destination: pair.destination,

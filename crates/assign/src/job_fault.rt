@@ -24,6 +24,8 @@ pub enum Limit {
     Cost,
     Nodes,
     Arcs,
+    /// Bytes of the reports of a job in memory.
+    Document,
 }
 
 /// The first fault of a job. Where a table, a line or the network passes a limit it is `Range`, and

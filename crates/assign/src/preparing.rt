@@ -9,7 +9,9 @@ ghost use Rattle.assign.specs.PartFaults.{from_feed};
 ghost use Rattle.assign.specs.JobSteps.{AreTablesOf, IsPreparedOf, IsPreparedOver, IsRefusedEarly};
 ghost use Rattle.assign.specs.Jobs.{city_in, counts_in};
 ghost use Rattle.assign.specs.JobViews.{job_of};
+ghost use Rattle.network.specs.Standing.{IsCityOf};
 
+use crate::asked::zone_asked;
 use crate::job_fault::JobFault;
 use crate::job_parts::Job;
 use crate::tables::{Tables, read_tables};
@@ -21,12 +23,16 @@ use network::{CityNet, build};
 use scenarios::{Layer, TimeFare};
 use std::alloc::Global;
 
-/// The tables and the city of a job, and what was counted on the way.
+/// The feed, the lines, the tables and the city of a job, what was counted on the way, and the zone
+/// that the job asks for.
 #[derive(Drop)]
 pub(crate) struct Prepared {
+    pub feed: Feed,
+    pub lines: Lines,
     pub tables: Tables,
     pub city: CityNet,
     pub counts: Counts,
+    pub zone: Option<u32>,
 }
 
 /// Reads a job and builds its city.
@@ -35,7 +41,7 @@ pub(crate) fn prepare(alloc: Global, job: &Job) -> Result<Prepared, JobFault>
     ensures refused { IfErr result (IsRefusedEarly (job_of job.now)) }
 {
     let feed = read_feed(alloc, job)?;
-    let prepared = prepare_over(alloc, job, &feed)?;
+    let prepared = prepare_over(alloc, job, feed)?;
     Ok(prepared)
 }
 
@@ -49,20 +55,24 @@ fn read_feed(alloc: Global, job: &Job) -> Result<Feed, JobFault>
     Ok(feed)
 }
 
-// Reads the tables over the feed of a job, and builds its city.
-fn prepare_over(alloc: Global, job: &Job, feed: &Feed) -> Result<Prepared, JobFault>
-    ensures prepared { IfOk result (IsPreparedOver (job_of job.now) feed.now) }
-    ensures faultless { OnOk result (faults_behind (job_of job.now) feed.now ≡ []) }
-    ensures refused { IfErr result (IsFirstFault (faults_behind (job_of job.now) feed.now)) }
+// Reads the tables over the feed of a job and finds the zone that it asks for, and builds its city.
+fn prepare_over(alloc: Global, job: &Job, feed: Feed) -> Result<Prepared, JobFault>
+    ensures prepared { IfOk result (IsPreparedOver (job_of job.now) feed) }
+    ensures faultless { OnOk result (faults_behind (job_of job.now) feed ≡ []) }
+    ensures refused { IfErr result (IsFirstFault (faults_behind (job_of job.now) feed)) }
 {
-    let tables = read_tables(alloc, job, feed)?;
-    let lines = read_lines(alloc, job, feed)?;
-    let city = build_city(alloc, job, feed, &lines, &tables)?;
-    let counts = counts_of(job, feed, &lines, &tables);
+    let tables = read_tables(alloc, job, &feed)?;
+    let zone = zone_asked(alloc, job, &feed, &tables.zones)?;
+    let lines = read_lines(alloc, job, &feed)?;
+    let city = build_city(alloc, job, &feed, &lines, &tables)?;
+    let counts = counts_of(job, &feed, &lines, &tables);
     Ok(Prepared {
+        feed,
+        lines,
         tables,
         city,
         counts,
+        zone,
     })
 }
 
@@ -90,6 +100,7 @@ fn build_city(
     requires laws { All (IsLineOf feed.now) lines.now.lines }
     requires tables { AreTablesOf (job_of job.now) feed.now tables.now }
     ensures city { IfOk result (λ city. city ≡ city_in (job_of job.now) feed.now) }
+    ensures stands { IfOk result (λ city. IsCityOf city feed.now lines.now.lines) }
     ensures faultless { OnOk result (faults_of_network (job_of job.now) feed.now ≡ []) }
     ensures refused { IfErr result (IsFirstFault (faults_of_network (job_of job.now) feed.now)) }
 {

@@ -1,56 +1,70 @@
-//! The assignment of a prepared job, and its summary.
+//! The assignment of a prepared job, and what is printed of it.
 
-ghost use Rattle.std.specs.Prelude.{◌≡◌, ◌≢◌, ◌≤◌, ℕ, All, Err, IfErr, IfOk, OnOk, length};
+ghost use Rattle.std.specs.Prelude.{◌≡◌, ◌≢◌, ◌≤◌, ◌⊎◌, ℕ, All, Err, IfErr, IfOk, IsSome, OnOk, length};
 ghost use Rattle.definitions.specs.Causes.{Rose};
 ghost use Rattle.demand.specs.Laws.{IsPairAmong};
-ghost use Rattle.assign.specs.JobSteps.{IsSummaryFrom, IsUnassigned, IsUnprinted, PrintsTotalsFrom};
-ghost use Rattle.assign.specs.Printed.{AreTotalsOfCity, AppendsSome, AppendsPart};
+ghost use Rattle.assign.specs.JobSteps.{IsPrintable, IsUnassigned, IsUnprinted, data_of};
+ghost use Rattle.assign.specs.Printed.{AppendsFrontOf, AppendsPart, AppendsSome, AreTotalsOfCity, BeginsPrintFrom, IsInOnePiece, IsPrintFrom, PrintsCertificateFrom, PrintsTotalsFrom};
 ghost use Rattle.assign.specs.declared.job_fault.JobFault.TheVariants as fault;
+ghost use Rattle.assign.specs.declared.print.Print.TheVariants as print;
 
 use crate::assigning::assign;
 use crate::fault::AssignFault;
 use crate::job_fault::JobFault;
 use crate::preparing::Prepared;
+use crate::print::Print;
+use crate::printing::print_totals;
 use crate::unshown::Unshown;
 use demand::Demand;
 use desk_io::Sink;
 use gtfs_rows::Name;
-use line_report::summary;
+use line_report::loads_follow;
 use loading::Totals;
 use network::CityNet;
 use std::alloc::{AllocError, Global};
 
-/// Assigns what was prepared of a job, and writes the summary.
-pub(crate) fn print<S: Sink>(
+/// Assigns what was prepared of a job, and writes what is asked for.
+pub(crate) fn print_prepared<S: Sink>(
     alloc: Global,
     prepared: &Prepared,
+    what: Print,
     out: &mut S,
 ) -> Result<(), JobFault>
-    requires pairs { All (IsPairAmong prepared.now.city.zones) prepared.now.tables.demand.pairs }
-    requires names { prepared.now.city.zones ≡ length prepared.now.tables.zones.names }
-    ensures ok { OnOk result
-        (AppendsSome (IsSummaryFrom prepared.now) (S.written out.old) (S.written out.new)) }
+    requires printable { IsPrintable prepared.now }
+    requires zone { what ≡ print.Certificate → IsSome prepared.now.zone }
+    ensures ok { OnOk result (AppendsSome (IsPrintFrom (data_of prepared.now) prepared.now.zone what)
+        (S.written out.old) (S.written out.new)) }
     ensures totals { OnOk result
-        (PrintsTotalsFrom prepared.now (S.written out.old) (S.written out.new)) }
+        (PrintsTotalsFrom (data_of prepared.now) prepared.now.zone what
+        prepared.now.tables.demand.units (S.written out.old) (S.written out.new)) }
+    ensures certified { what ≡ print.Certificate → OnOk result
+        (PrintsCertificateFrom (data_of prepared.now) prepared.now.zone
+        (S.written out.old) (S.written out.new)) }
     ensures sent { (sent : ℕ) → result ≡ Err (fault.WriteFault sent)
-        → AppendsPart (IsSummaryFrom prepared.now) sent (S.written out.old) (S.written out.new) }
-    ensures nothing { IfErr result
-        (λ found. ((sent : ℕ) → found ≢ fault.WriteFault sent) → out.new ≡ out.old) }
+        → AppendsPart (BeginsPrintFrom (data_of prepared.now) prepared.now.zone what) sent
+        (S.written out.old) (S.written out.new) }
+    ensures no_memory { result ≡ Err fault.NoMemory → (out.new ≡ out.old) ⊎ AppendsFrontOf
+        (BeginsPrintFrom (data_of prepared.now) prepared.now.zone what)
+        (S.written out.old) (S.written out.new) }
+    ensures in_one_piece { result ≡ Err fault.NoMemory → IsInOnePiece what → out.new ≡ out.old }
+    ensures nothing { IfErr result (λ found. ((sent : ℕ) → found ≢ fault.WriteFault sent)
+        → found ≢ fault.NoMemory → out.new ≡ out.old) }
     ensures refused { IfErr result (IsUnprinted prepared.now) }
     ensures write_cause { (sent : ℕ) → result ≡ Err (fault.WriteFault sent)
         → Rose (S.count out.old) (S.count out.new) }
     ensures count { S.count out.old ≤ S.count out.new }
     ensures rest { S.keeps_sink_rest out.old out.new }
 {
-    let city = &prepared.city;
     let tables = &prepared.tables;
-    let totals = totals_of(alloc, city, &tables.demand, tables.zones.names())?;
-    summary(alloc, out, city, &totals, &prepared.counts)?;
+    let totals = totals_of(alloc, &prepared.city, &tables.demand, tables.zones.names())?;
+    // The loads along each line follow from its boardings and alightings.
+    loads_follow(&prepared.city, &prepared.feed, &prepared.lines);
+    print_totals(alloc, prepared, &totals, what, out)?;
     Ok(())
 }
 
-// Assigns a demand to a city whose zones have these names, and gives the totals.
-fn totals_of(
+/// Assigns a demand to a city whose zones have these names, and gives the totals.
+pub(crate) fn totals_of(
     alloc: Global,
     city: &CityNet,
     demand: &Demand,

@@ -8,6 +8,18 @@ ghost use Rattle.assign.specs.Spans.{IsSpanOf, PartsAt};
 
 use demand::Pair;
 
+/// Where the pairs that lead to a zone begin, or would.
+pub(crate) fn begin_of(pairs: &[Pair], zone: u32) -> usize
+    requires ordered { AreOrdered pairs.now }
+    ensures starts { PartsAt pairs.now zone result }
+{
+    let mut begin = 0;
+    while begin < pairs.len() && pairs[begin].destination < zone {
+        begin += 1;
+    }
+    begin
+}
+
 /// The end of the pairs that lead to a zone, which begin at `from`.
 pub(crate) fn end_of(pairs: &[Pair], zone: u32, from: usize) -> usize
     requires ordered { AreOrdered pairs.now }

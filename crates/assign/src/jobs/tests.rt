@@ -3,10 +3,12 @@
 
 mod city;
 mod faults;
+mod prints;
 mod summaries;
 mod usual;
 
 use super::*;
+use crate::print::Print;
 use demand::DemandFault;
 use desk_io::MemorySink;
 use feed_reader::{FeedFault, Files};
@@ -17,7 +19,7 @@ use std::alloc::AllocError;
 use std::str::from_utf8;
 use std::test::Fail;
 
-// The texts of the tables of a job, and the end of its window, which begins at 7.
+// The texts of the tables of a job, the end of its window, which begins at 7, and what it prints.
 #[derive(Clone, Copy, Drop)]
 struct Texts<'a> {
     zones: &'a str,
@@ -25,18 +27,30 @@ struct Texts<'a> {
     demand: &'a str,
     scenario: Option<&'a str>,
     to: &'a str,
+    print: Print,
+    to_zone: Option<&'a str>,
 }
 
-// What a job over these files and tables writes into so much room, and why it does not write all.
-fn written(alloc: Global, files: &Files, texts: &Texts, room: usize) -> Result<String, Fail> {
-    let job = Job {
+// The job over these files and tables.
+fn job_of<'a>(files: &'a Files, texts: &Texts<'a>) -> Result<Job<'a>, Fail> {
+    Ok(Job {
         files,
         zones: texts.zones.as_bytes(),
         walks: texts.walks.map(|text| text.as_bytes()),
         demand: texts.demand.as_bytes(),
         scenario: texts.scenario.map(|text| text.as_bytes()),
         period: Period::new("20250602", "07:00:00", texts.to).map_err(|_| "a period")?,
-    };
+        print: texts.print,
+        to_zone: texts.to_zone,
+    })
+}
+
+// What a job over these files and tables writes into so much room, and why it does not write all.
+fn written(alloc: Global, files: &Files, texts: &Texts, room: usize) -> Result<String, Fail> {
+    let job = job_of(files, texts)?;
+    if matches!(job.print, Print::Certificate) && job.to_zone.is_none() {
+        return Err("a certificate of a zone".into());
+    }
     let mut out = MemorySink::new(alloc, room, 7, Vec::new(alloc))?;
     let answer = super::job(alloc, &job, &mut out);
     let mut text = String::from_str(alloc, from_utf8(out.bytes()).unwrap_or("?"))?;

@@ -9,6 +9,7 @@ use Rattle.assign.specs.Conditions.{units_of_pairs}
 use Rattle.assign.specs.Reached.{AllPairsReach}
 use Rattle.assign.specs.Sums.{AreWithin}
 use Rattle.assign.proofs.BoundLemmas.{no_plans_cheaper, totals_of, within_boardings}
+use Rattle.assign.proofs.ConservedLemmas.{totals_conserved}
 use Rattle.assign.proofs.PairLemmas.{are_pairs}
 use Rattle.assign.proofs.PlanLemmas.{bound_within_cost, has_plans, volume_per_arc}
 use Rattle.assign.proofs.assigning.assign.Goals as goal
@@ -46,6 +47,10 @@ returns-in-Ok-clause-no_plan_is_cheaper g c =
 
 pub returns-in-Ok-clause-bound_within_cost : goal.returns-in-Ok-clause-bound_within_cost
 returns-in-Ok-clause-bound_within_cost g c = bound_within_cost c.args.city.now c.args.demand.now.pairs c.totals.result (returns-in-Ok-clause-assigned g c).0
+
+pub returns-in-Ok-clause-in_and_out : goal.returns-in-Ok-clause-in_and_out
+returns-in-Ok-clause-in_and_out g c =
+    totals_conserved c.args.city.now c.args.demand.now.pairs c.totals.result c.rules.ensures.rules (returns-in-Ok-clause-assigned g c).0
 
 pub returns-in-Ok-clause-gap_within_boardings : goal.returns-in-Ok-clause-gap_within_boardings
 returns-in-Ok-clause-gap_within_boardings g c =

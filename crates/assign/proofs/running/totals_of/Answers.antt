@@ -46,4 +46,5 @@ returns-in-Ok-clause-totals c =
       bound_within_cost = made.bound_within_cost;
       gap_within_boardings = made.gap_within_boardings made.conserved.assignment;
       gap_within_slack = made.gap_within_slack;
+      in_and_out = made.in_and_out;
     }

@@ -1,6 +1,7 @@
 //! A city of two stops with two lines between them, and one where passengers change lines.
 
 use super::Texts;
+use crate::print::Print;
 
 /// Two lines from A to B, of 600 and 840 seconds. In an hour they weigh 6000 and 4000.
 pub const CITY: [(u32, &str); 6] = [
@@ -19,6 +20,8 @@ pub const TEXTS: Texts<'static> = Texts {
     demand: "origin,destination,trips\nX,Y,0.000010\nX,X,1\n",
     scenario: None,
     to: "08:00:00",
+    print: Print::Summary,
+    to_zone: None,
 };
 
 /// One line from A to P1 and one from P2 to C, each of 600 seconds. P1 and P2 are in one station,
@@ -45,6 +48,8 @@ pub const CHANGE_TEXTS: Texts<'static> = Texts {
     demand: "origin,destination,trips\nX,Y,1\n",
     scenario: None,
     to: "08:00:00",
+    print: Print::Summary,
+    to_zone: None,
 };
 
 /// A service that runs on Mondays to Fridays of 2025.
