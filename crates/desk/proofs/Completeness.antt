@@ -1,4 +1,4 @@
--- Each command but `assign` and `solve` has an outcome over a folder's files, and where no count rose it is answered.
+-- `check`, and words that are refused, have an outcome over a folder's files, and where no count rose it is answered.
 use Rattle.std.proofs.Common.{◌≡◌, ℕ, ◌+◌, List, [], ◌⊎◌, inl, inr, length, Option, None, Some, refl}
 use Rattle.std.specs.Prelude.{IfSome}
 use Rattle.std.proofs.lemmas.Bool.{cases_lt}
@@ -14,7 +14,7 @@ use Rattle.desk.specs.declared.status.UsageFault.TheVariants.{Words, NoFile}
 use Rattle.desk.specs.declared.status.Cause.{Cause}
 use Rattle.desk.specs.declared.status.Cause.TheVariants.{Done, Usage, Feed, Demand, Scenario, Range, ReadFault, WriteFault, NoMemory, Refused, Unreachable}
 use Rattle.desk.specs.declared.command.Command.{Command}
-use Rattle.desk.specs.declared.command.Command.TheVariants.{Assign, Check, Solve}
+use Rattle.desk.specs.declared.command.Command.TheVariants.{Assign, Check, Solve, Gen}
 use Rattle.desk.specs.Output.{verdict_lines}
 use Rattle.desk.specs.Read.{Files, IsRead}
 use Rattle.desk.specs.Outcome.{LiesOutside, IsOutcome, DidNotRise, IsDueAnswered, IsOutcomeAnswered, Completes}
@@ -82,6 +82,7 @@ of_command told None cause old new h within = due told None cause old new (no_co
 of_command told (Some (Assign words)) cause old new h within = known told (Some (Assign words)) cause old new h within
 of_command told (Some (Check path)) cause old new h within = due told (Some (Check path)) cause old new (of_file told path (file_at told path) refl) h within
 of_command told (Some (Solve path)) cause old new h within = known told (Some (Solve path)) cause old new h within
+of_command told (Some (Gen words)) cause old new h within = known told (Some (Gen words)) cause old new h within
 
 pub complete : (files : Files) (command : Option Command) (cause : Cause) (folder_old folder_new out_old out_new : ℕ) (old new : Option (List ℕ)) →
     IfSome files (λ told. LiesOutside cause ⊎ IsOutcomeAnswered told command cause old new) →

@@ -12,26 +12,32 @@ use Rattle.assign.specs.declared.job_fault.JobFault.{JobFault}
 use Rattle.assign.specs.declared.job_fault.JobFault.TheVariants as fault
 use Rattle.assign.specs.JobFaults.{HasCause}
 use Rattle.assign.specs.Jobs.{JobData}
-use Rattle.assign.specs.Printed.{AppendsPart, IsSummaryOf}
+use Rattle.assign.specs.Printed.{AppendsFrontOf, AppendsPart, BeginsPrintOf, IsInOnePiece}
+use Rattle.assign.specs.declared.print.Print.{Print}
 use Rattle.certificate.specs.Spelling.{spelling}
 use Rattle.certificate.specs.NetworkText.{ProblemData}
 use Rattle.desk.specs.declared.command.AssignWords.{AssignWords}
 use Rattle.desk.specs.declared.command.Command.{Command}
 use Rattle.desk.specs.declared.inputs.Inputs.{Inputs}
-use Rattle.desk.specs.declared.command.Command.TheVariants.{Assign, Check, Solve}
+use Rattle.desk.specs.declared.command.Command.TheVariants.{Assign, Check, Solve, Gen}
 use Rattle.desk.specs.declared.status.UsageFault.TheVariants.{Words, Date, Window, NoFile}
 use Rattle.desk.specs.declared.status.Unreached.TheVariants.{Node, Pair}
 use Rattle.desk.specs.declared.status.Cause.{Cause}
 use Rattle.desk.specs.declared.status.Cause.TheVariants.{Done, Usage, Feed, Demand, Scenario, Range, ReadFault, WriteFault, NoMemory, Refused, Unreachable}
-use Rattle.desk.specs.Assigned.{IsBadPeriod, IsJobOf, job_with}
+use Rattle.desk.specs.Assigned.{IsBadPeriod, IsJobOf, inputs_in, job_with}
 use Rattle.desk.specs.Command.{file_of}
+use Rattle.desk.specs.declared.gen_words.GenWords.{GenWords}
+use Rattle.desk.specs.GeneratedJobs.{generated_job}
 use Rattle.desk.specs.InputFaults.{HasInputFault}
 use Rattle.desk.specs.JobCauses.{cause_of, usage_of}
 use Rattle.desk.specs.Read.{Files, IsMissing, Reads}
-use Rattle.desk.specs.Outcome.{LiesOutside, IsOutcome, IsOutcomeAnswered}
+use Rattle.desk.specs.Outcome.{LiesOutside, IsOutcome, IsOutcomeAnswered, PrintedFront}
 use Rattle.desk.specs.Solved.{IsPosed, certificate_with}
 use Rattle.desk.proofs.OneOutcome.{only}
-use Rattle.desk.specs.Ends.{Writes, EndsJob, EndsSolving, EndsCommand, Unchecked, Unposed}
+use Rattle.desk.specs.Ends.{Writes, EndsJob, EndsSolving, EndsCommand, LeavesFront, Unchecked, Unposed}
+use Rattle.desk.proofs.BegunLemmas.{begins_assigned, whole_print}
+use Rattle.desk.proofs.InputLaws.{same_parts}
+use Rattle.desk.proofs.OneAssignment.{same_job}
 
 -- a file that is not there is missing
 missing_of : (files : Files) (command : Option Command) (path name : List ℕ) → file_of command ≡ Some path → name ≡ path → IfSome files (λ told. file_at told path ≡ None) → IsMissing files command name
@@ -39,6 +45,10 @@ missing_of files command path name is same none = record {
   is = is ∙ ap Some (sym same);
   file = subst (λ p. IfSome files (λ told. file_at told p ≡ None)) (sym same) none;
 }
+
+-- want of memory where nothing was written
+pub wants_memory : (reads : Reads) (writes : Writes) (command : Option Command) → writes.new ≡ writes.old → EndsCommand reads writes command NoMemory
+wants_memory reads writes command same = record { front = inl same; in_one_piece = λ whole. same }
 
 -- ---- check
 
@@ -55,7 +65,7 @@ unchecked_ends reads writes path (Scenario found) h same = absurd h
 unchecked_ends reads writes path (Range limit count) h same = ((h.0, h.1, record { path = path; is = refl; file = h.2 }), same)
 unchecked_ends reads writes path ReadFault h same = (h, same)
 unchecked_ends reads writes path (WriteFault sent) h same = absurd h
-unchecked_ends reads writes path NoMemory h same = same
+unchecked_ends reads writes path NoMemory h same = wants_memory reads writes (Some (Check path)) same
 unchecked_ends reads writes path (Unreachable unreached) h same = absurd h
 unchecked_ends reads writes path (Refused found) h same = (h, same)
 
@@ -74,7 +84,7 @@ unposed_ends reads writes path (Scenario found) h same = absurd h
 unposed_ends reads writes path (Range limit count) h same = ((h.0, h.1, record { path = path; is = refl; file = h.2 }), same)
 unposed_ends reads writes path ReadFault h same = (h, same)
 unposed_ends reads writes path (WriteFault sent) h same = absurd h
-unposed_ends reads writes path NoMemory h same = same
+unposed_ends reads writes path NoMemory h same = wants_memory reads writes (Some (Solve path)) same
 unposed_ends reads writes path (Unreachable unreached) h same = absurd h
 unposed_ends reads writes path (Refused found) h same = (h, same)
 
@@ -95,13 +105,13 @@ solving_ends reads writes path p ReadFault posed h = absurd h
 solving_ends reads writes path p (WriteFault sent) posed h = (
   h.0,
   record {
-    output = spelling (certificate_with p h.1.labels h.1.volumes h.1.waits);
-    is = (certificate_with p h.1.labels h.1.volumes h.1.waits, record { problem = p; posed = posed; solution = h.1.solution; is = refl }, refl);
+    begun = spelling (certificate_with p h.1.labels h.1.volumes h.1.waits);
+    begins = (certificate_with p h.1.labels h.1.volumes h.1.waits, record { problem = p; posed = posed; solution = h.1.solution; is = refl }, refl);
     part = h.1.part;
     appended = h.1.appended;
   },
 )
-solving_ends reads writes path p NoMemory posed h = h
+solving_ends reads writes path p NoMemory posed h = wants_memory reads writes (Some (Solve path)) h
 solving_ends reads writes path p (Unreachable (Pair from to)) posed h = absurd h
 solving_ends reads writes path p (Unreachable (Node node)) posed h = (record { problem = p; posed = posed; first = h.0 }, h.1)
 solving_ends reads writes path p (Refused fault) posed h = absurd h
@@ -139,54 +149,107 @@ inputs_end reads writes words (Scenario found) fine h same = absurd h
 inputs_end reads writes words (Range limit count) fine h same = (inl (record { period = fine; fault = h }), same)
 inputs_end reads writes words ReadFault fine h same = (h, same)
 inputs_end reads writes words (WriteFault sent) fine h same = absurd h
-inputs_end reads writes words NoMemory fine h same = same
+inputs_end reads writes words NoMemory fine h same = wants_memory reads writes (Some (Assign words)) same
 inputs_end reads writes words (Unreachable unreached) fine h same = absurd h
 inputs_end reads writes words (Refused found) fine h same = absurd h
+
+-- what is left of a job's print is left of what `assign` prints
+front_left : (files : Files) (words : AssignWords) (job : JobData) (old new : Option (List ℕ)) → IsJobOf files words job → (new ≡ old) ⊎ AppendsFrontOf (BeginsPrintOf job) old new →
+    (new ≡ old) ⊎ PrintedFront files (Some (Assign words)) old new
+front_left files words job old new is (inl same) = inl same
+front_left files words job old new is (inr h) = inr (record {
+  begun = h.bytes;
+  begins = begins_assigned files words job h.bytes is h.holds;
+  count = h.count;
+  within = h.within;
+  appended = h.appended;
+})
 
 -- a job
 pub job_ends : (reads : Reads) (writes : Writes) (words : AssignWords) (job : JobData) (cause : Cause) → IsJobOf reads.files words job → EndsJob job writes cause →
     EndsCommand reads writes (Some (Assign words)) cause
-job_ends reads writes words job Done is h = record { output = h.bytes; is = record { job = job; is_job = is; is_summary = h.holds }; appended = h.appended }
+job_ends reads writes words job Done is h = record { output = h.bytes; is = record { job = job; is_job = is; is_print = h.holds }; appended = h.appended }
 job_ends reads writes words job (Usage fault) is h = absurd h
 job_ends reads writes words job (Feed found) is h = (record { job = job; is_job = is; first = h.0 }, h.1)
 job_ends reads writes words job (Demand found) is h = (record { job = job; is_job = is; first = h.0 }, h.1)
 job_ends reads writes words job (Scenario found) is h = (record { job = job; is_job = is; first = h.0 }, h.1)
-job_ends reads writes words job (Range limit count) is h =
-    (inr (record { name = h.0.name; is = h.0.is; refused = record { job = job; is_job = is; first = h.0.first } }), h.1)
+job_ends reads writes words job (Range limit count) is h = (inr (record { job = job; is_job = is; range = h.0 }), h.1)
 job_ends reads writes words job ReadFault is h = absurd h
 job_ends reads writes words job (WriteFault sent) is h =
-    (h.0, record { output = h.1.bytes; is = record { job = job; is_job = is; is_summary = h.1.holds }; part = h.1.fewer; appended = h.1.appended })
-job_ends reads writes words job NoMemory is h = h
+    (h.0, record { begun = h.1.bytes; begins = begins_assigned reads.files words job h.1.bytes is h.1.holds; part = h.1.fewer; appended = h.1.appended })
+job_ends reads writes words job NoMemory is h = record {
+  front = front_left reads.files words job writes.old writes.new is h.front;
+  in_one_piece = λ whole. h.in_one_piece (subst IsInOnePiece (sym is.is_print) whole);
+}
 job_ends reads writes words job (Unreachable (Pair origin destination)) is h = (record { job = job; is_job = is; unreached = h.0 }, h.1)
 job_ends reads writes words job (Unreachable (Node node)) is h = absurd h
 job_ends reads writes words job (Refused found) is h = absurd h
 
--- a job whose parts are those of inputs in a period
-pub job_is : (inputs : Inputs) (period : PeriodData) (job : JobData) → job.files ≡ inputs.files → job.zones ≡ inputs.zones → job.walks ≡ inputs.walks → job.demand ≡ inputs.demand →
-    job.scenario ≡ inputs.scenario → job.period ≡ period → job ≡ job_with inputs period
-job_is inputs period job files zones walks demand scenario same =
-    ap (λ (x : FilesData). record job { files = x }) files
-    ∙ ap (λ (x : List ℕ). record job { files = inputs.files; zones = x }) zones
-    ∙ ap (λ (x : Option (List ℕ)). record job { files = inputs.files; zones = inputs.zones; walks = x }) walks
-    ∙ ap (λ (x : List ℕ). record job { files = inputs.files; zones = inputs.zones; walks = inputs.walks; demand = x }) demand
-    ∙ ap (λ (x : Option (List ℕ)). record job { files = inputs.files; zones = inputs.zones; walks = inputs.walks; demand = inputs.demand; scenario = x }) scenario
-    ∙ ap (job_with inputs) same
+-- a job whose parts are those of inputs in a period, and of what is asked for
+pub job_is : (inputs : Inputs) (period : PeriodData) (printed : Print) (zone : Option (List ℕ)) (job : JobData) →
+    job.files ≡ inputs.files → job.zones ≡ inputs.zones → job.walks ≡ inputs.walks → job.demand ≡ inputs.demand →
+    job.scenario ≡ inputs.scenario → job.period ≡ period → job.print ≡ printed → job.to_zone ≡ zone → job ≡ job_with inputs period printed zone
+job_is inputs period printed zone job files zones walks demand scenario time print to_zone =
+    let is : inputs_in job ≡ inputs =
+    same_parts job.files inputs.files job.zones inputs.zones job.demand inputs.demand job.walks inputs.walks job.scenario inputs.scenario files zones demand walks scenario in
+    same_job job (job_with inputs period printed zone) is time print to_zone
+
+-- what want of memory leaves behind, where an output that is the same tells the same
+pub left_behind : {S : Type 0} (job : JobData) (written : S → Option (List ℕ)) (old new : S) → (new ≡ old) ⊎ AppendsFrontOf (BeginsPrintOf job) (written old) (written new) →
+    (IsInOnePiece job.print → new ≡ old) → LeavesFront job (written old) (written new)
+left_behind job written old new (inl same) piece = record { front = inl (ap written same); in_one_piece = λ whole. ap written (piece whole) }
+left_behind job written old new (inr h) piece = record { front = inr h; in_one_piece = λ whole. ap written (piece whole) }
 
 -- a refused job
-pub fault_ends : (job : JobData) (writes : Writes) (answer : JobFault) → HasCause job answer → (((sent : ℕ) → answer ≢ fault.WriteFault sent) → writes.new ≡ writes.old) →
-    ((sent : ℕ) → answer ≡ fault.WriteFault sent → AppendsPart (IsSummaryOf job) sent writes.old writes.new) →
-    ((sent : ℕ) → answer ≡ fault.WriteFault sent → Rose writes.old_count writes.new_count) → EndsJob job writes (cause_of answer)
-fault_ends job writes (fault.Feed found) h quiet part rose = (h, quiet (λ sent e. cc e))
-fault_ends job writes (fault.Demand found) h quiet part rose = (h, quiet (λ sent e. cc e))
-fault_ends job writes (fault.Scenario found) h quiet part rose = (h, quiet (λ sent e. cc e))
-fault_ends job writes (fault.Unreachable origin destination) h quiet part rose = (h, quiet (λ sent e. cc e))
-fault_ends job writes (fault.Range name count) h quiet part rose = (record { name = name; is = refl; first = h }, quiet (λ sent e. cc e))
-fault_ends job writes (fault.WriteFault sent) h quiet part rose = (rose sent refl, part sent refl)
-fault_ends job writes fault.NoMemory h quiet part rose = quiet (λ sent e. cc e)
+pub fault_ends : (job : JobData) (writes : Writes) (answer : JobFault) → HasCause job answer →
+    (((sent : ℕ) → answer ≢ fault.WriteFault sent) → answer ≢ fault.NoMemory → writes.new ≡ writes.old) →
+    ((sent : ℕ) → answer ≡ fault.WriteFault sent → AppendsPart (BeginsPrintOf job) sent writes.old writes.new) →
+    ((sent : ℕ) → answer ≡ fault.WriteFault sent → Rose writes.old_count writes.new_count) →
+    (answer ≡ fault.NoMemory → LeavesFront job writes.old writes.new) → EndsJob job writes (cause_of answer)
+fault_ends job writes (fault.Feed found) h quiet part rose left = (h, quiet (λ sent e. cc e) (λ e. cc e))
+fault_ends job writes (fault.Demand found) h quiet part rose left = (h, quiet (λ sent e. cc e) (λ e. cc e))
+fault_ends job writes (fault.Scenario found) h quiet part rose left = (h, quiet (λ sent e. cc e) (λ e. cc e))
+fault_ends job writes (fault.Unreachable origin destination) h quiet part rose left = (h, quiet (λ sent e. cc e) (λ e. cc e))
+fault_ends job writes (fault.Range name count) h quiet part rose left = (record { name = name; is = refl; first = h }, quiet (λ sent e. cc e) (λ e. cc e))
+fault_ends job writes (fault.WriteFault sent) h quiet part rose left = (rose sent refl, part sent refl)
+fault_ends job writes fault.NoMemory h quiet part rose left = left refl
+
+-- ---- gen
+
+-- the print of a generated city's job
+gen_front_left : (files : Files) (words : GenWords) (old new : Option (List ℕ)) → (new ≡ old) ⊎ AppendsFrontOf (BeginsPrintOf (generated_job words)) old new →
+    (new ≡ old) ⊎ PrintedFront files (Some (Gen words)) old new
+gen_front_left files words old new (inl same) = inl same
+gen_front_left files words old new (inr h) = inr (record {
+  begun = h.bytes;
+  begins = whole_print (generated_job words) h.bytes (λ e. cc e) h.holds;
+  count = h.count;
+  within = h.within;
+  appended = h.appended;
+})
+
+pub gen_ends : (reads : Reads) (writes : Writes) (words : GenWords) (cause : Cause) → EndsJob (generated_job words) writes cause → EndsCommand reads writes (Some (Gen words)) cause
+gen_ends reads writes words Done h = record { output = h.bytes; is = h.holds; appended = h.appended }
+gen_ends reads writes words (Usage fault) h = absurd h
+gen_ends reads writes words (Feed found) h = h
+gen_ends reads writes words (Demand found) h = h
+gen_ends reads writes words (Scenario found) h = h
+gen_ends reads writes words (Range limit count) h = h
+gen_ends reads writes words ReadFault h = absurd h
+gen_ends reads writes words (WriteFault sent) h =
+    (h.0, record { begun = h.1.bytes; begins = whole_print (generated_job words) h.1.bytes (λ e. cc e) h.1.holds; part = h.1.fewer; appended = h.1.appended })
+gen_ends reads writes words NoMemory h = record {
+  front = gen_front_left reads.files words writes.old writes.new h.front;
+  in_one_piece = λ whole. h.in_one_piece tt;
+}
+gen_ends reads writes words (Unreachable (Pair origin destination)) h = h
+gen_ends reads writes words (Unreachable (Node node)) h = absurd h
+gen_ends reads writes words (Refused found) h = absurd h
 
 -- ---- what comes of a command
 
-nothing : (old new : Option (List ℕ)) → new ≡ old → Appends old new []
+-- nothing was appended where the output is the same
+pub nothing : (old new : Option (List ℕ)) → new ≡ old → Appends old new []
 nothing None new same = same
 nothing (Some bytes) new same = same ∙ ap Some (sym (append-nil bytes))
 

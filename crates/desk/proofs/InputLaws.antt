@@ -25,11 +25,11 @@ same_file_where told (Some path) (Some bytes) None h k = absurd k
 same_file_where told (Some path) (Some bytes) (Some other) h k = ap (λ b. Some b) (same_file told path bytes other h k)
 
 -- inputs of these parts
-abbrev with_parts : FilesData → List ℕ → List ℕ → Option (List ℕ) → Option (List ℕ) → Inputs
+abbrev pub with_parts : FilesData → List ℕ → List ℕ → Option (List ℕ) → Option (List ℕ) → Inputs
 with_parts files zones demand walks scenario = record { files = files; zones = zones; demand = demand; walks = walks; scenario = scenario }
 
 -- inputs of the same parts are the same
-same_parts : (files other_files : FilesData) (zones other_zones demand other_demand : List ℕ) (walks other_walks scenario other_scenario : Option (List ℕ)) →
+pub same_parts : (files other_files : FilesData) (zones other_zones demand other_demand : List ℕ) (walks other_walks scenario other_scenario : Option (List ℕ)) →
     files ≡ other_files → zones ≡ other_zones → demand ≡ other_demand → walks ≡ other_walks → scenario ≡ other_scenario →
     with_parts files zones demand walks scenario ≡ with_parts other_files other_zones other_demand other_walks other_scenario
 same_parts files other_files zones other_zones demand other_demand walks other_walks scenario other_scenario f z d w s = cc

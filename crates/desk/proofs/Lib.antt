@@ -6,9 +6,18 @@ pub mod PrintLemmas
 pub mod FeedLemmas
 pub mod OneVerdict
 pub mod OneCertificate
+pub mod PrintLaws
 pub mod OneAssignment
 pub mod OneOutcome
+pub mod BegunLemmas
 pub mod SolvingLemmas
 pub mod EndLemmas
+pub mod FrontLemmas
+pub mod CityLemmas
 pub mod RunLemmas
 pub mod Completeness
+pub mod DrawLemmas
+pub mod RowLemmas
+pub mod PairLemmas
+pub mod ShortLemmas
+mod KnownGenerated

@@ -6,10 +6,10 @@ use Rattle.gtfs_rows.specs.Fields.{clock_of, date_of}
 use Rattle.service_period.specs.Periods.{IsPeriodOf, PeriodData, period_faults, window_of}
 use Rattle.service_period.specs.declared.bad_period.BadPeriod.{BadPeriod}
 use Rattle.assign.specs.declared.job_fault.JobFault.{JobFault}
-use Rattle.assign.specs.JobFaults.{HasUnreachedPair, IsFirstOf}
+use Rattle.assign.specs.JobFaults.{HasUnreachedPair, IsFaultless, IsFirstOf}
 use Rattle.assign.specs.Jobs.{JobData}
-use Rattle.assign.specs.Printed.{IsSummaryOf}
-use Rattle.assign.proofs.JobLawLemmas.{one_summary, summary_is_faultless, one_fault, one_unreachable, never_both}
+use Rattle.assign.specs.Printed.{IsPrintOf}
+use Rattle.assign.proofs.JobLawLemmas.{print_is_faultless, whole_begins, one_fault, one_unreachable, never_both}
 use Rattle.desk.specs.declared.command.AssignWords.{AssignWords}
 use Rattle.desk.specs.declared.status.Unreached.TheVariants.{Pair}
 use Rattle.desk.specs.declared.status.Cause.{Cause}
@@ -18,6 +18,7 @@ use Rattle.desk.specs.Assigned.{IsBadPeriod, IsJobOf, IsRefusedInput, inputs_in,
 use Rattle.desk.specs.JobCauses.{cause_of, usage_of}
 use Rattle.desk.proofs.InputLaws.{one_inputs, one_input_fault, inputs_have_no_fault}
 use Rattle.desk.proofs.OneVerdict.{Same}
+use Rattle.desk.proofs.PrintLaws.{one_print}
 
 -- ---- one job
 
@@ -36,16 +37,21 @@ period_is a b day window h k m n =
     some_is x y e = cc
 
 -- texts write one period at most
-one_period : (date from to : List ℕ) (a b : PeriodData) → IsPeriodOf date from to a → IsPeriodOf date from to b → a ≡ b
+pub one_period : (date from to : List ℕ) (a b : PeriodData) → IsPeriodOf date from to a → IsPeriodOf date from to b → a ≡ b
 one_period date from to a b h k = period_is a b (date_of date) (window_of (clock_of from) (clock_of to)) h.day k.day h.window k.window
 
--- a job is that of its files in its period
-same_job : (a b : JobData) → inputs_in a ≡ inputs_in b → a.period ≡ b.period → a ≡ b
-same_job a b inputs period = ap (λ i. job_with i a.period) inputs ∙ ap (job_with (inputs_in b)) period
+-- a job is that of its files in its period, of which it prints what it prints, with the zone that it asks for
+pub same_job : (a b : JobData) → inputs_in a ≡ inputs_in b → a.period ≡ b.period → a.print ≡ b.print → a.to_zone ≡ b.to_zone → a ≡ b
+same_job a b inputs period printed zone =
+    ap (λ i. job_with i a.period a.print a.to_zone) inputs
+    ∙ ap (λ p. job_with (inputs_in b) p a.print a.to_zone) period
+    ∙ ap (λ p. job_with (inputs_in b) b.period p a.to_zone) printed
+    ∙ ap (job_with (inputs_in b) b.period b.print) zone
 
-one_job : (told : Told) (words : AssignWords) (a b : JobData) → IsJobOf (Some told) words a → IsJobOf (Some told) words b → a ≡ b
+pub one_job : (told : Told) (words : AssignWords) (a b : JobData) → IsJobOf (Some told) words a → IsJobOf (Some told) words b → a ≡ b
 one_job told words a b h k =
     same_job a b (one_inputs told words (inputs_in a) (inputs_in b) h.inputs k.inputs) (one_period words.date words.from words.to a.period b.period h.period k.period)
+    (h.is_print ∙ sym k.is_print) (h.is_zone ∙ sym k.is_zone)
 
 -- ---- what comes of a job
 
@@ -64,13 +70,17 @@ pub record ShowsPair (job : JobData) (cause : Cause) (output : List ℕ) : Type 
   pub told : cause ≡ Unreachable (Pair origin destination)
   pub empty : output ≡ []
 
--- its summary
-pub record ShowsSummary (job : JobData) (cause : Cause) (output : List ℕ) : Type 0 where
-  pub summary : IsSummaryOf job output
+-- what it prints
+pub record ShowsPrint (job : JobData) (cause : Cause) (output : List ℕ) : Type 0 where
+  pub is_print : IsPrintOf job output
   pub told : cause ≡ Done
 
 abbrev pub ShowsJob : JobData → Cause → List ℕ → Type 0
-ShowsJob job cause output = ShowsFault job cause output ⊎ (ShowsPair job cause output ⊎ ShowsSummary job cause output)
+ShowsJob job cause output = ShowsFault job cause output ⊎ (ShowsPair job cause output ⊎ ShowsPrint job cause output)
+
+-- a job that prints is faultless
+faultless : (job : JobData) (output : List ℕ) → IsPrintOf job output → IsFaultless job
+faultless job output h = print_is_faultless job output (whole_begins job output h)
 
 pair_is : (a b c d : List ℕ) → (a ≡ b) × (c ≡ d) → Unreachable (Pair a c) ≡ Unreachable (Pair b d)
 pair_is a b c d h = cc (h.0, h.1)
@@ -78,7 +88,7 @@ pair_is a b c d h = cc (h.0, h.1)
 after_fault : (job : JobData) (a b : Cause) (x y : List ℕ) → ShowsFault job a x → ShowsJob job b y → Same a b x y
 after_fault job a b x y h (inl k) = record { cause = h.told ∙ ap cause_of (one_fault job h.answer k.answer h.first k.first) ∙ sym k.told; output = h.empty ∙ sym k.empty }
 after_fault job a b x y h (inr (inl k)) = absurd ((never_both job).fault_or_unreachable h.answer k.origin k.destination h.first k.unreached)
-after_fault job a b x y h (inr (inr k)) = absurd ((never_both job).faultless_or_fault h.answer (summary_is_faultless job y k.summary) h.first)
+after_fault job a b x y h (inr (inr k)) = absurd ((never_both job).faultless_or_fault h.answer (faultless job y k.is_print) h.first)
 
 after_pair : (job : JobData) (a b : Cause) (x y : List ℕ) → ShowsPair job a x → ShowsJob job b y → Same a b x y
 after_pair job a b x y h (inl k) = absurd ((never_both job).fault_or_unreachable k.answer h.origin h.destination k.first h.unreached)
@@ -86,17 +96,17 @@ after_pair job a b x y h (inr (inl k)) = record {
   cause = h.told ∙ pair_is h.origin k.origin h.destination k.destination (one_unreachable job h.origin h.destination k.origin k.destination h.unreached k.unreached) ∙ sym k.told;
   output = h.empty ∙ sym k.empty;
 }
-after_pair job a b x y h (inr (inr k)) = absurd ((never_both job).faultless_or_unreachable h.origin h.destination (summary_is_faultless job y k.summary) h.unreached)
+after_pair job a b x y h (inr (inr k)) = absurd ((never_both job).faultless_or_unreachable h.origin h.destination (faultless job y k.is_print) h.unreached)
 
-after_summary : (job : JobData) (a b : Cause) (x y : List ℕ) → ShowsSummary job a x → ShowsJob job b y → Same a b x y
-after_summary job a b x y h (inl k) = absurd ((never_both job).faultless_or_fault k.answer (summary_is_faultless job x h.summary) k.first)
-after_summary job a b x y h (inr (inl k)) = absurd ((never_both job).faultless_or_unreachable k.origin k.destination (summary_is_faultless job x h.summary) k.unreached)
-after_summary job a b x y h (inr (inr k)) = record { cause = h.told ∙ sym k.told; output = one_summary job x y h.summary k.summary }
+after_print : (job : JobData) (a b : Cause) (x y : List ℕ) → ShowsPrint job a x → ShowsJob job b y → Same a b x y
+after_print job a b x y h (inl k) = absurd ((never_both job).faultless_or_fault k.answer (faultless job x h.is_print) k.first)
+after_print job a b x y h (inr (inl k)) = absurd ((never_both job).faultless_or_unreachable k.origin k.destination (faultless job x h.is_print) k.unreached)
+after_print job a b x y h (inr (inr k)) = record { cause = h.told ∙ sym k.told; output = one_print job x y h.is_print k.is_print }
 
-one_of_job : (job : JobData) (a b : Cause) (x y : List ℕ) → ShowsJob job a x → ShowsJob job b y → Same a b x y
+pub one_of_job : (job : JobData) (a b : Cause) (x y : List ℕ) → ShowsJob job a x → ShowsJob job b y → Same a b x y
 one_of_job job a b x y (inl h) k = after_fault job a b x y h k
 one_of_job job a b x y (inr (inl h)) k = after_pair job a b x y h k
-one_of_job job a b x y (inr (inr h)) k = after_summary job a b x y h k
+one_of_job job a b x y (inr (inr h)) k = after_print job a b x y h k
 
 -- ---- what comes of the words
 

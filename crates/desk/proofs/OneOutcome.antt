@@ -7,7 +7,7 @@ use Rattle.assign.specs.declared.job_fault.JobFault.TheVariants as fault
 use Rattle.certificate.specs.Refusals.{IsRefusedWith, HasRefusal}
 use Rattle.desk.specs.declared.command.AssignWords.{AssignWords}
 use Rattle.desk.specs.declared.command.Command.{Command}
-use Rattle.desk.specs.declared.command.Command.TheVariants.{Assign, Check, Solve}
+use Rattle.desk.specs.declared.command.Command.TheVariants.{Assign, Check, Solve, Gen}
 use Rattle.desk.specs.declared.status.Limit.{Limit}
 use Rattle.desk.specs.declared.status.Limit.TheVariants.{File}
 use Rattle.desk.specs.declared.status.UsageFault.TheVariants.{Words, Date, Window, NoFile}
@@ -18,7 +18,9 @@ use Rattle.desk.specs.Outcome.{IsOutcome, IsOnlyOutcome}
 use Rattle.desk.specs.When.{PassesLimit}
 use Rattle.desk.proofs.OneVerdict.{Same, ShowsVerdict, one_verdict_shown}
 use Rattle.desk.proofs.OneCertificate.{ShowsCertificate, one_certificate_shown}
-use Rattle.desk.proofs.OneAssignment.{ShowsAssignment, one_assignment_shown}
+use Rattle.desk.specs.declared.gen_words.GenWords.{GenWords}
+use Rattle.desk.specs.GeneratedJobs.{generated_job}
+use Rattle.desk.proofs.OneAssignment.{ShowsAssignment, ShowsJob, one_assignment_shown, one_of_job}
 
 -- ---- no command
 
@@ -185,13 +187,13 @@ by_limit : (files : List (List ℕ × List ℕ)) (words : AssignWords) (limit : 
     ShowsAssignment files words (Range limit count) y
 by_limit files words limit count y empty (inl h) = inr (inl (record { refused = h; empty = empty }))
 by_limit files words limit count y empty (inr h) = inr (inr (record {
-  job = h.refused.job;
-  is_job = h.refused.is_job;
-  shows = inl (record { answer = fault.Range h.name count; first = h.refused.first; told = ap (λ l. Range l count) h.is; empty = empty });
+  job = h.job;
+  is_job = h.is_job;
+  shows = inl (record { answer = fault.Range h.range.name count; first = h.range.first; told = ap (λ l. Range l count) h.range.is; empty = empty });
 }))
 
 of_assign : (files : List (List ℕ × List ℕ)) (words : AssignWords) (b : Cause) (y : List ℕ) → IsOutcome files (Some (Assign words)) b y → ShowsAssignment files words b y
-of_assign files words Done y h = inr (inr (record { job = h.job; is_job = h.is_job; shows = inr (inr (record { summary = h.is_summary; told = refl })) }))
+of_assign files words Done y h = inr (inr (record { job = h.job; is_job = h.is_job; shows = inr (inr (record { is_print = h.is_print; told = refl })) }))
 of_assign files words (Usage Words) y h = absurd (let e = h.0 in cc)
 of_assign files words (Usage Date) y h = inl (record { bad = bad.Date; first = h.0; told = refl; empty = h.1 })
 of_assign files words (Usage Window) y h = inl (record { bad = bad.Window; first = h.0; told = refl; empty = h.1 })
@@ -211,6 +213,25 @@ of_assign files words (Unreachable (Pair from to)) y h =
 of_assign files words (Unreachable (Node node)) y h = absurd h.0
 of_assign files words (Refused found) y h = absurd h.0
 
+-- ---- gen
+
+of_gen : (files : List (List ℕ × List ℕ)) (words : GenWords) (b : Cause) (y : List ℕ) → IsOutcome files (Some (Gen words)) b y → ShowsJob (generated_job words) b y
+of_gen files words Done y h = inr (inr (record { is_print = h; told = refl }))
+of_gen files words (Usage Words) y h = absurd (let e = h.0 in cc)
+of_gen files words (Usage Date) y h = absurd h.0
+of_gen files words (Usage Window) y h = absurd h.0
+of_gen files words (Usage (NoFile path)) y h = absurd h.0
+of_gen files words (Feed found) y h = inl (record { answer = fault.Feed found; first = h.0; told = refl; empty = h.1 })
+of_gen files words (Demand found) y h = inl (record { answer = fault.Demand found; first = h.0; told = refl; empty = h.1 })
+of_gen files words (Scenario found) y h = inl (record { answer = fault.Scenario found; first = h.0; told = refl; empty = h.1 })
+of_gen files words (Range limit count) y h = inl (record { answer = fault.Range h.0.name count; first = h.0.first; told = ap (λ l. Range l count) h.0.is; empty = h.1 })
+of_gen files words ReadFault y h = absurd h.0
+of_gen files words (WriteFault sent) y h = absurd h.0
+of_gen files words NoMemory y h = absurd h.0
+of_gen files words (Unreachable (Pair from to)) y h = inr (inl (record { origin = from; destination = to; unreached = h.0; told = refl; empty = h.1 }))
+of_gen files words (Unreachable (Node node)) y h = absurd h.0
+of_gen files words (Refused found) y h = absurd h.0
+
 -- ---- one outcome
 
 one_outcome : (files : List (List ℕ × List ℕ)) (command : Option Command) (a b : Cause) (x y : List ℕ) → IsOutcome files command a x → IsOutcome files command b y → Same a b x y
@@ -220,6 +241,7 @@ one_outcome files None a b x y h k =
     record { cause = first.told ∙ sym second.told; output = first.empty ∙ sym second.empty }
 one_outcome files (Some (Assign words)) a b x y h k = one_assignment_shown files words a b x y (of_assign files words a x h) (of_assign files words b y k)
 one_outcome files (Some (Check path)) a b x y h k = one_of_file files path ShowsVerdict one_verdict_shown a b x y (of_check files path a x h) (of_check files path b y k)
+one_outcome files (Some (Gen words)) a b x y h k = one_of_job (generated_job words) a b x y (of_gen files words a x h) (of_gen files words b y k)
 one_outcome files (Some (Solve path)) a b x y h k = one_of_file files path ShowsCertificate one_certificate_shown a b x y (of_solve files path a x h) (of_solve files path b y k)
 
 pub only : (files : List (List ℕ × List ℕ)) (command : Option Command) (cause : Cause) (output : List ℕ) → IsOutcome files command cause output → IsOnlyOutcome files command cause output
@@ -227,3 +249,7 @@ only files command cause output h = record {
   comes = h;
   alone = λ other bytes k. (let same = one_outcome files command other cause bytes output k h in (same.cause, same.output));
 }
+
+-- a command has one output at most
+pub one_output : (files : List (List ℕ × List ℕ)) (command : Option Command) (output other : List ℕ) → IsOutcome files command Done output → IsOutcome files command Done other → output ≡ other
+one_output files command output other h k = (one_outcome files command Done Done output other h k).output

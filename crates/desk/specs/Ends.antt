@@ -1,5 +1,5 @@
 -- How the parts of a run end, by the cause that they answer.
-use Rattle.std.specs.Prelude.{◌≡◌, ℕ, ◌<◌, List, length, take, Option, Some}
+use Rattle.std.specs.Prelude.{◌≡◌, ◌⊎◌, ℕ, ◌<◌, List, length, take, Option, Some}
 use Rattle.definitions.specs.Causes.{Rose}
 use Rattle.desk_io.specs.Told.{Appends}
 use Rattle.certificate.specs.declared.checking.Verdict.{Verdict}
@@ -7,25 +7,23 @@ use Rattle.certificate.specs.Spelling.{spelling}
 use Rattle.certificate.specs.NetworkText.{ProblemData}
 use Rattle.certificate.specs.Valid.{IsValid}
 use Rattle.loading.specs.Loads.{IsFirstUnreachable}
-use Rattle.assign.specs.declared.job_fault.Limit.{Limit as JobLimit}
 use Rattle.assign.specs.declared.job_fault.JobFault.TheVariants as fault
 use Rattle.assign.specs.JobFaults.{HasUnreachedPair, IsFirstOf}
 use Rattle.assign.specs.Jobs.{JobData}
-use Rattle.assign.specs.Printed.{IsSummaryOf, AppendsSome, AppendsPart}
+use Rattle.assign.specs.Printed.{AppendsFrontOf, AppendsPart, AppendsSome, BeginsPrintOf, IsInOnePiece, IsPrintOf}
 use Rattle.desk.specs.declared.command.Command.{Command}
 use Rattle.desk.specs.declared.command.Command.TheVariants.{Check, Solve}
-use Rattle.desk.specs.declared.status.Limit.{Limit}
 use Rattle.desk.specs.declared.status.UsageFault.TheVariants.{NoFile}
 use Rattle.desk.specs.declared.status.Unreached.TheVariants.{Node, Pair}
 use Rattle.desk.specs.declared.status.Cause.{Cause}
 use Rattle.desk.specs.declared.status.Cause.TheVariants.{Done, Usage, Feed, Demand, Scenario, Range, ReadFault, WriteFault, NoMemory, Refused, Unreachable}
+use Rattle.desk.specs.Assigned.{IsRangeOf}
 use Rattle.desk.specs.InputFaults.{IsUnread}
-use Rattle.desk.specs.JobCauses.{limit_of}
 use Rattle.desk.specs.Output.{verdict_lines}
-use Rattle.desk.specs.Outcome.{IsDue, PrintedInPart, PrintedWhole}
-use Rattle.desk.specs.Read.{Reads}
+use Rattle.desk.specs.Outcome.{IsDue, PrintedFront, PrintedInPart, PrintedWhole}
+use Rattle.desk.specs.Read.{Files, Reads}
 use Rattle.desk.specs.Solved.{IsSolution, IsRefusedNetwork, certificate_with}
-use Rattle.desk.specs.When.{IsRefusedCertificate}
+use Rattle.desk.specs.When.{IsRefusedCertificate, IsWrittenWhole}
 
 -- an output over a call: its count of faults and its bytes, before and after
 pub record Writes : Type 0 where
@@ -91,25 +89,29 @@ EndsSolving problem writes cause = ⊥
 
 -- ---- assign
 
--- the first fault of a job is that this limit is passed
-pub record IsRangeOf (job : JobData) (limit : Limit) (count : ℕ) : Type 0 where
-  pub name : JobLimit
-  pub is : limit ≡ limit_of name
-  pub first : IsFirstOf job (fault.Range name count)
+-- what want of memory leaves behind of what a job prints: nothing, or its first bytes; and nothing where all memory is taken first
+pub record LeavesFront (job : JobData) (old new : Option (List ℕ)) : Type 0 where
+  pub front : (new ≡ old) ⊎ AppendsFrontOf (BeginsPrintOf job) old new
+  pub in_one_piece : IsInOnePiece job.print → new ≡ old
 
--- how the printing of a job's summary ends
+-- how the printing of a job ends
 abbrev pub EndsJob : JobData → Writes → Cause → Type 0
-EndsJob job writes Done = AppendsSome (IsSummaryOf job) writes.old writes.new
-EndsJob job writes (WriteFault sent) = Rose writes.old_count writes.new_count × AppendsPart (IsSummaryOf job) sent writes.old writes.new
+EndsJob job writes Done = AppendsSome (IsPrintOf job) writes.old writes.new
+EndsJob job writes (WriteFault sent) = Rose writes.old_count writes.new_count × AppendsPart (BeginsPrintOf job) sent writes.old writes.new
 EndsJob job writes (Feed found) = IsFirstOf job (fault.Feed found) × (writes.new ≡ writes.old)
 EndsJob job writes (Demand found) = IsFirstOf job (fault.Demand found) × (writes.new ≡ writes.old)
 EndsJob job writes (Scenario found) = IsFirstOf job (fault.Scenario found) × (writes.new ≡ writes.old)
 EndsJob job writes (Range limit count) = IsRangeOf job limit count × (writes.new ≡ writes.old)
 EndsJob job writes (Unreachable (Pair origin destination)) = HasUnreachedPair job origin destination × (writes.new ≡ writes.old)
-EndsJob job writes NoMemory = writes.new ≡ writes.old
+EndsJob job writes NoMemory = LeavesFront job writes.old writes.new
 EndsJob job writes cause = ⊥
 
 -- ---- each command
+
+-- what want of memory leaves behind of a command's output: nothing, or its first bytes; and nothing where all memory is taken first
+pub record WantsMemory (files : Files) (command : Option Command) (old new : Option (List ℕ)) : Type 0 where
+  pub front : (new ≡ old) ⊎ PrintedFront files command old new
+  pub in_one_piece : IsWrittenWhole command → new ≡ old
 
 -- how a command ends
 abbrev pub EndsCommand : Reads → Writes → Option Command → Cause → Type 0
@@ -117,5 +119,5 @@ EndsCommand reads writes command Done = PrintedWhole reads.files command writes.
 EndsCommand reads writes command ReadFault = Rose reads.old_count reads.new_count × (writes.new ≡ writes.old)
 EndsCommand reads writes command (WriteFault sent) =
     Rose writes.old_count writes.new_count × PrintedInPart reads.files command writes.old writes.new sent
-EndsCommand reads writes command NoMemory = writes.new ≡ writes.old
+EndsCommand reads writes command NoMemory = WantsMemory reads.files command writes.old writes.new
 EndsCommand reads writes command cause = IsDue reads.files command cause × (writes.new ≡ writes.old)

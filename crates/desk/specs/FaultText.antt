@@ -35,6 +35,7 @@ limit_name limit.Weight = codes "weight"
 limit_name limit.Cost = codes "cost"
 limit_name limit.Nodes = codes "nodes"
 limit_name limit.Arcs = codes "arcs"
+limit_name limit.Document = codes "document"
 
 abbrev pub text_limit_name : TextLimit → List ℕ
 text_limit_name text_limit.Nodes = codes "nodes"

@@ -21,6 +21,7 @@ limit_of job_limit.Weight = limit.Weight
 limit_of job_limit.Cost = limit.Cost
 limit_of job_limit.Nodes = limit.Nodes
 limit_of job_limit.Arcs = limit.Arcs
+limit_of job_limit.Document = limit.Document
 
 -- a fault of a job
 abbrev pub cause_of : JobFault → Cause

@@ -1,4 +1,10 @@
 pub mod Status
+pub mod Draws
+pub mod Rows
+pub mod GeneratedLines
+pub mod GeneratedTables
+pub mod Generated
+pub mod Generable
 pub mod Command
 pub mod KnownCommands
 pub mod Output
@@ -12,7 +18,9 @@ pub mod InputFaults
 pub mod Solved
 pub mod JobCauses
 pub mod Assigned
+pub mod GeneratedJobs
 pub mod When
 pub mod Outcome
 pub mod Ends
 pub mod Fed
+pub mod Accepted

@@ -1,16 +1,16 @@
 -- What comes of a command. What is said of files holds where the folder tells them.
-use Rattle.std.specs.Prelude.{◌≡◌, ◌⊎◌, ℕ, ◌<◌, List, [], length, take, Option, None, Some}
+use Rattle.std.specs.Prelude.{◌≡◌, ◌⊎◌, ℕ, ◌<◌, ◌≤◌, List, [], length, take, Option, None, Some}
 use Rattle.definitions.specs.Causes.{Rose}
 use Rattle.desk_io.specs.Told.{Appends}
 use Rattle.service_period.specs.declared.bad_period.BadPeriod.TheVariants as bad
 use Rattle.assign.specs.declared.job_fault.JobFault.TheVariants as fault
 use Rattle.desk.specs.declared.command.Command.{Command}
-use Rattle.desk.specs.declared.command.Command.TheVariants.{Assign, Check, Solve}
+use Rattle.desk.specs.declared.command.Command.TheVariants.{Assign, Check, Solve, Gen}
 use Rattle.desk.specs.declared.status.UsageFault.TheVariants.{Words, Date, Window, NoFile}
 use Rattle.desk.specs.declared.status.Cause.{Cause}
 use Rattle.desk.specs.declared.status.Cause.TheVariants.{Done, Usage, Feed, Demand, Scenario, Range, ReadFault, WriteFault, NoMemory, Refused, Unreachable}
 use Rattle.desk.specs.Read.{Files}
-use Rattle.desk.specs.When.{HasBadPeriod, HasJobFault, IsOutput, IsRefused, IsUnreached, LacksFile, PassesLimit}
+use Rattle.desk.specs.When.{BeginsOutput, HasBadPeriod, HasJobFault, IsOutput, IsRefused, IsUnreached, IsWrittenWhole, LacksFile, PassesLimit}
 
 -- the command's output was appended
 pub record PrintedWhole (files : Files) (command : Option Command) (old new : Option (List ℕ)) : Type 0 where
@@ -18,12 +18,33 @@ pub record PrintedWhole (files : Files) (command : Option Command) (old new : Op
   pub is : IsOutput files command output
   pub appended : Appends old new output
 
--- only the first bytes, so many, of the command's output were appended
+-- only the first bytes, so many, of what begins the command's output were appended
 pub record PrintedInPart (files : Files) (command : Option Command) (old new : Option (List ℕ)) (sent : ℕ) : Type 0 where
-  pub output : List ℕ
-  pub is : IsOutput files command output
-  pub part : sent < length output
-  pub appended : Appends old new (take sent output)
+  pub begun : List ℕ
+  pub begins : BeginsOutput files command begun
+  pub part : sent < length begun
+  pub appended : Appends old new (take sent begun)
+
+-- some first bytes, maybe none or all, of what begins the command's output were appended
+pub record PrintedFront (files : Files) (command : Option Command) (old new : Option (List ℕ)) : Type 0 where
+  pub begun : List ℕ
+  pub begins : BeginsOutput files command begun
+  pub count : ℕ
+  pub within : count ≤ length begun
+  pub appended : Appends old new (take count begun)
+
+-- some first bytes, maybe none or all, of an output were appended
+pub record AppendsFront (output : List ℕ) (old new : Option (List ℕ)) : Type 0 where
+  pub count : ℕ
+  pub within : count ≤ length output
+  pub appended : Appends old new (take count output)
+
+-- a cause after which nothing was appended to the output of the command
+abbrev pub WritesNothing : Option Command → Cause → Type 0
+WritesNothing command Done = ⊥
+WritesNothing command (WriteFault sent) = ⊥
+WritesNothing command NoMemory = IsWrittenWhole command
+WritesNothing command cause = Unit {0}
 
 -- the cause lies outside: a fault of the folder or the output, or want of memory
 abbrev pub LiesOutside : Cause → Type 0
@@ -75,9 +96,10 @@ pub record IsOutcomeAnswered (files : List (List ℕ × List ℕ)) (command : Op
   pub outcome : IsOnlyOutcome files command cause output
   pub appended : Appends old new output
 
--- the one outcome of the command was answered, or memory was wanting; that there is one is said of all but `assign` and `solve`
+-- the one outcome of the command was answered, or memory was wanting; that there is one is said of `check`, and of words that are refused
 abbrev pub Completes : List (List ℕ × List ℕ) → Option Command → Cause → Option (List ℕ) → Option (List ℕ) → Type 0
 Completes files None cause old new = IsDueAnswered files None cause old new
 Completes files (Some (Assign words)) cause old new = (cause ≡ NoMemory) ⊎ IsOutcomeAnswered files (Some (Assign words)) cause old new
 Completes files (Some (Check path)) cause old new = IsDueAnswered files (Some (Check path)) cause old new
 Completes files (Some (Solve path)) cause old new = (cause ≡ NoMemory) ⊎ IsOutcomeAnswered files (Some (Solve path)) cause old new
+Completes files (Some (Gen words)) cause old new = (cause ≡ NoMemory) ⊎ IsOutcomeAnswered files (Some (Gen words)) cause old new

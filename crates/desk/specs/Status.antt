@@ -16,9 +16,3 @@ code_of ReadFault = 8
 code_of (WriteFault sent) = 9
 code_of NoMemory = 11
 code_of (Refused fault) = 12
-
--- a cause after which nothing was appended to the output
-abbrev pub WritesNothing : Cause → Type 0
-WritesNothing Done = ⊥
-WritesNothing (WriteFault sent) = ⊥
-WritesNothing cause = Unit {0}

@@ -2,6 +2,7 @@
 
 ghost use Rattle.std.specs.Prelude.{◌≤◌, Some, IfOk, IfErr};
 ghost use Rattle.desk.specs.declared.command.Command.TheVariants.{Check};
+ghost use Rattle.desk.specs.Accepted.{CertificatesAreAccepted};
 ghost use Rattle.desk.specs.Ends.{EndsCommand, EndsPrinting, Unchecked};
 ghost use Rattle.desk.specs.When.{IsChecked};
 
@@ -24,6 +25,12 @@ pub fn check<D: Folder, O: Sink>(alloc: Global, path: &str, folder: &mut D, out:
         Err(cause) => cause,
     }
 }
+
+/// A law: what `assign` prints as the certificate of a zone is accepted by `check`, where it is no
+/// longer than a file may be, with the cost and the bound of that zone.
+pub fn certificates_are_accepted()
+    ensures accepted { CertificatesAreAccepted }
+{}
 
 // The verdict of the certificate in the file at the path, or why there is none.
 fn verdict_of_file<D: Folder>(alloc: Global, path: &str, folder: &mut D) -> Result<Verdict, Cause>

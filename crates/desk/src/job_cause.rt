@@ -36,5 +36,6 @@ fn limit_of(limit: assign::Limit) -> Limit
         assign::Limit::Cost => Limit::Cost,
         assign::Limit::Nodes => Limit::Nodes,
         assign::Limit::Arcs => Limit::Arcs,
+        assign::Limit::Document => Limit::Document,
     }
 }

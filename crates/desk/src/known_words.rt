@@ -1,15 +1,19 @@
 //! The words of the program, read by `clap`.
 
-ghost use Rattle.std.specs.Prelude.{◌≡◌, ◌≢◌, [], None, Some, IfOk, Err, map, option_map, true};
+ghost use Rattle.std.specs.Prelude.{◌≡◌, ◌≢◌, ◌≤◌, [], None, Some, IfOk, IfSome, Err, map, option_map, true};
 ghost use Rattle.clap.specs.Words.{app_of, fault_of, first_of, found_of, rows_of, subcommand_of, subcommand_rows_of, with_subcommand};
 ghost use Rattle.desk.specs.declared.known_words.Unknown.TheVariants as unknown;
-ghost use Rattle.desk.specs.Command.{assign_app, assign_in, bare_app, command_in, command_of, desk_app, file_app, period_app, with_option, with_place};
+ghost use Rattle.desk.specs.Command.{ValuesAgree, agrees, assign_app, assign_in, assigning_app, bare_app, command_in, command_of, desk_app, file_app, gen_app, gen_in, number_in, period_app, print_named, print_of, printing_in, size_of, tables_app, with_option, with_place};
+ghost use Rattle.desk.specs.Generable.{IsGenerable};
 ghost use Rattle.desk.specs.KnownCommands.{KnowsCommands};
 
 use crate::command::{AssignWords, Command};
+use crate::gen_words::GenWords;
+use assign::Print;
 use clap::error::ErrorKind;
 use clap::{Arg, ArgMatches, Command as App};
 use desk_io::Name;
+use gtfs_rows::whole;
 use std::alloc::{AllocError, Global};
 
 /// Why there is no command.
@@ -31,10 +35,12 @@ impl From<AllocError> for Unknown {
 /// The command of the words, which exclude the program's own name.
 ///
 /// docs/FORMATS.md lists the commands. `Words` where the words are none of them: also where one is
-/// missing or one more is there, where an option is unknown, stands twice or has no value, and where
-/// help is asked for. `NoMemory` may come in place of any answer.
+/// missing or one more is there, where an option is unknown, stands twice or has no value, where
+/// what is printed does not go with the zone that is asked for, where a number is none or outside of
+/// its limits, and where help is asked for. `NoMemory` may come in place of any answer.
 pub fn command_of(alloc: Global, words: &[Name]) -> Result<Command, Unknown>
     ensures ok { IfOk result (λ command. command_of words.now ≡ Some command) }
+    ensures agree { IfOk result ValuesAgree }
     ensures words { result ≡ Err Unknown.Words → command_of words.now ≡ None }
 {
     let texts = texts_of(alloc, words)?;
@@ -88,11 +94,16 @@ fn read_by<'m, 'a>(matches: &'m ArgMatches<'a>) -> Option<(&'a str, &'m ArgMatch
 fn command_in(alloc: Global, name: &str, values: &ArgMatches<'_>) -> Result<Command, Unknown>
     ensures ok { IfOk result (λ command. command_in name.now (rows_of (found_of values.now)) ≡ Some command) }
     ensures words { result ≡ Err Unknown.Words → command_in name.now (rows_of (found_of values.now)) ≡ None }
+    ensures agree { IfOk result ValuesAgree }
 {
     match name {
         "assign" => Ok(Command::Assign(assign_in(alloc, values)?)),
         "check" => Ok(Command::Check(value_of(alloc, values, "file")?)),
         "solve" => Ok(Command::Solve(value_of(alloc, values, "file")?)),
+        "gen" => match gen_in(values) {
+            Some(words) => Ok(Command::Gen(words)),
+            None => Err(Unknown::Words),
+        },
         _ => Err(Unknown::Words),
     }
 }
@@ -101,7 +112,9 @@ fn command_in(alloc: Global, name: &str, values: &ArgMatches<'_>) -> Result<Comm
 fn assign_in(alloc: Global, values: &ArgMatches<'_>) -> Result<AssignWords, Unknown>
     ensures ok { IfOk result (λ words. assign_in (rows_of (found_of values.now)) ≡ Some words) }
     ensures words { result ≡ Err Unknown.Words → assign_in (rows_of (found_of values.now)) ≡ None }
+    ensures agree { IfOk result (λ words. agrees words.print words.to_zone ≡ true) }
 {
+    let (print, to_zone) = printing_in(alloc, values)?;
     Ok(AssignWords {
         folder: value_of(alloc, values, "folder")?,
         date: value_of(alloc, values, "date")?,
@@ -111,7 +124,101 @@ fn assign_in(alloc: Global, values: &ArgMatches<'_>) -> Result<AssignWords, Unkn
         demand: value_of(alloc, values, "demand")?,
         walks: choice_of(alloc, values, "walks")?,
         scenario: choice_of(alloc, values, "scenario")?,
+        print,
+        to_zone,
     })
+}
+
+// What `assign` prints, and the zone that is asked for.
+fn printing_in(alloc: Global, values: &ArgMatches<'_>) -> Result<(Print, Option<Name>), Unknown>
+    ensures ok { IfOk result (λ pair. printing_in (rows_of (found_of values.now)) ≡ Some pair) }
+    ensures words { result ≡ Err Unknown.Words → printing_in (rows_of (found_of values.now)) ≡ None }
+    ensures agree { IfOk result (λ pair. agrees pair.0 pair.1 ≡ true) }
+{
+    let Some(print) = print_of(text_of(values, "print")) else {
+        return Err(Unknown::Words);
+    };
+    let to_zone = choice_of(alloc, values, "to-zone")?;
+    if agrees(print, &to_zone) {
+        Ok((print, to_zone))
+    } else {
+        Err(Unknown::Words)
+    }
+}
+
+// What is printed: without a word of `--print` the summary.
+fn print_of(word: Option<&str>) -> Option<Print>
+    ensures value { result ≡ print_of (option_map (λ text. text.now) word.entry) }
+{
+    match word {
+        None => Some(Print::Summary),
+        Some(word) => print_named(word),
+    }
+}
+
+// What a word of `--print` asks for.
+fn print_named(word: &str) -> Option<Print>
+    ensures value { result ≡ print_named word.now }
+{
+    match word {
+        "summary" => Some(Print::Summary),
+        "lines" => Some(Print::Lines),
+        "stops" => Some(Print::Stops),
+        "segments" => Some(Print::Segments),
+        "skims" => Some(Print::Skims),
+        "certificate" => Some(Print::Certificate),
+        _ => None,
+    }
+}
+
+// Whether a zone may be asked for, or not.
+fn agrees(print: Print, zone: &Option<Name>) -> bool
+    ensures value { result ≡ agrees print zone.now }
+{
+    match print {
+        Print::Certificate => zone.is_some(),
+        Print::Skims => true,
+        Print::Summary | Print::Lines | Print::Stops | Print::Segments | Print::All => {
+            zone.is_none()
+        }
+    }
+}
+
+// The values of `gen`.
+fn gen_in(values: &ArgMatches<'_>) -> Option<GenWords>
+    ensures value { result ≡ gen_in (rows_of (found_of values.now)) }
+    ensures agree { IfSome result IsGenerable }
+{
+    let seed = number_in(values, "seed")?;
+    let stops = size_of(number_in(values, "stops"), 8, 5000)?;
+    let lines = size_of(number_in(values, "lines"), 2, 500)?;
+    let zones = size_of(number_in(values, "zones"), 2, 1000)?;
+    Some(GenWords {
+        seed,
+        stops,
+        lines,
+        zones,
+    })
+}
+
+// A number from the first to the second of two.
+fn size_of(number: Option<u64>, least: u32, most: u32) -> Option<u32>
+    ensures value { result ≡ size_of least most number }
+    ensures within { IfSome result (λ size. (least ≤ size) × (size ≤ most)) }
+{
+    let number = number?;
+    if u64::from(least) <= number && number <= u64::from(most) {
+        Some(number as u32)
+    } else {
+        None
+    }
+}
+
+// The number of an argument.
+fn number_in(values: &ArgMatches<'_>, id: &str) -> Option<u64>
+    ensures value { result ≡ number_in id.now (rows_of (found_of values.now)) }
+{
+    whole(text_of(values, id)?.as_bytes())
 }
 
 // The value of an argument, which is refused where there is none.
@@ -146,10 +253,18 @@ fn text_of<'a>(values: &ArgMatches<'a>, id: &str) -> Option<&'a str>
 fn desk_command<'a>(alloc: Global) -> Result<App<'a>, AllocError>
     ensures app { IfOk result (λ app. app_of app ≡ desk_app) }
 {
-    let desk = bare_command(alloc);
-    let desk = with_command(desk, assign_command(alloc)?)?;
+    let desk = assigning_command(alloc)?;
     let desk = with_command(desk, file_command(alloc, "check")?)?;
     with_command(desk, file_command(alloc, "solve")?)
+}
+
+// The program with the commands that assign a demand.
+fn assigning_command<'a>(alloc: Global) -> Result<App<'a>, AllocError>
+    ensures app { IfOk result (λ app. app_of app ≡ assigning_app) }
+{
+    let desk = bare_command(alloc);
+    let desk = with_command(desk, assign_command(alloc)?)?;
+    with_command(desk, gen_command(alloc)?)
 }
 
 // The program, which wants a command, and whose words are without its own name.
@@ -173,6 +288,15 @@ fn with_command<'a>(desk: App<'a>, command: App<'a>) -> Result<App<'a>, AllocErr
 fn assign_command<'a>(alloc: Global) -> Result<App<'a>, AllocError>
     ensures app { IfOk result (λ app. app_of app ≡ assign_app) }
 {
+    let command = tables_command(alloc)?;
+    let command = with_option(alloc, command, "print", false)?;
+    with_option(alloc, command, "to-zone", false)
+}
+
+// `assign` with its folder, its period and its tables.
+fn tables_command<'a>(alloc: Global) -> Result<App<'a>, AllocError>
+    ensures app { IfOk result (λ app. app_of app ≡ tables_app) }
+{
     let command = period_command(alloc)?;
     let command = with_option(alloc, command, "zones", true)?;
     let command = with_option(alloc, command, "demand", true)?;
@@ -189,6 +313,17 @@ fn period_command<'a>(alloc: Global) -> Result<App<'a>, AllocError>
     let command = with_option(alloc, command, "date", true)?;
     let command = with_option(alloc, command, "from", true)?;
     with_option(alloc, command, "to", true)
+}
+
+// `gen` with its numbers.
+fn gen_command<'a>(alloc: Global) -> Result<App<'a>, AllocError>
+    ensures app { IfOk result (λ app. app_of app ≡ gen_app) }
+{
+    let command = App::new(alloc, "gen");
+    let command = with_place(alloc, command, "seed")?;
+    let command = with_place(alloc, command, "stops")?;
+    let command = with_place(alloc, command, "lines")?;
+    with_place(alloc, command, "zones")
 }
 
 // A command over one file.

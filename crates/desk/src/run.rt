@@ -7,24 +7,29 @@ ghost use Rattle.feed_reader.specs.declared.fault.FeedFault.{FeedFault};
 ghost use Rattle.demand.specs.declared.fault.DemandFault.{DemandFault};
 ghost use Rattle.scenarios.specs.declared.fault.ScenarioFault.{ScenarioFault};
 ghost use Rattle.assign.specs.declared.job_fault.JobFault.TheVariants as fault;
+ghost use Rattle.assign.specs.declared.print.Print.TheVariants as print;
+ghost use Rattle.assign.specs.Printed.{PrintsTotals};
 ghost use Rattle.certificate.specs.declared.refused.Refused.{Refused as RefusedText};
 ghost use Rattle.certificate.specs.Valid.{IsValid};
 ghost use Rattle.desk.specs.declared.command.AssignWords.{AssignWords as TheWords};
-ghost use Rattle.desk.specs.declared.command.Command.TheVariants.{Assign, Solve};
-ghost use Rattle.desk.specs.Assigned.{PrintsAssignment};
-ghost use Rattle.desk.specs.Command.{command_of};
+ghost use Rattle.desk.specs.declared.command.Command.TheVariants.{Assign, Solve, Gen};
+ghost use Rattle.desk.specs.declared.gen_words.GenWords.{GenWords};
+ghost use Rattle.desk.specs.Assigned.{PrintsAssignment, PrintsZoneCertificate};
+ghost use Rattle.desk.specs.Command.{ValuesAgree, command_of};
 ghost use Rattle.desk.specs.Ends.{EndsCommand};
 ghost use Rattle.desk.specs.FaultText.{fault_text};
-ghost use Rattle.desk.specs.Outcome.{Completes, DidNotRise, IsOutcomeAnswered, LiesOutside, PrintedInPart, PrintedWhole};
+ghost use Rattle.desk.specs.GeneratedJobs.{generated_job};
+ghost use Rattle.desk.specs.Outcome.{AppendsFront, Completes, DidNotRise, IsOutcome, IsOutcomeAnswered, LiesOutside, PrintedFront, PrintedInPart, PrintedWhole, WritesNothing};
 ghost use Rattle.desk.specs.Printing.{Prints};
 ghost use Rattle.desk.specs.Solved.{IsWithinSlack, PrintsCertificate};
-ghost use Rattle.desk.specs.Status.{code_of, WritesNothing};
+ghost use Rattle.desk.specs.Status.{code_of};
 ghost use Rattle.desk.specs.When.{HasBadPeriod, HasJobFault, IsRefused, IsUnreached, LacksFile, PassesLimit};
 
 use crate::assigning::assign;
 use crate::checking::check;
 use crate::command::Command;
 use crate::fault_text::write_fault_text;
+use crate::generated_city::assign_generated;
 use crate::known_words::{Unknown, command_of};
 use crate::solving::solve;
 use crate::status::{Cause, Limit, Status, Unreached, UsageFault};
@@ -33,9 +38,10 @@ use std::alloc::Global;
 
 /// Carries out the command of the words, and tells how it ended.
 ///
-/// `words` exclude the program's own name. `assign FOLDER ..` prints the summary of the assignment
-/// of a demand to the network of the feed in that folder (Spiess and Florian 1989, in whole
-/// numbers), after the changes of a scenario. `check FILE` prints the verdict of the certificate in
+/// `words` exclude the program's own name. `assign FOLDER ..` assigns a demand to the network of the
+/// feed in that folder (Spiess and Florian 1989, in whole numbers), after the changes of a scenario,
+/// and prints the summary, a table or the certificate of a zone, as its words ask. `gen SEED ..`
+/// prints the summary of a generated city. `check FILE` prints the verdict of the certificate in
 /// that file of the folder. `solve FILE` prints a certificate of the network text in that file, with
 /// the labels (ticks), volumes (units) and waits (ticks times units). The output goes to `out`.
 /// Where the code is not 0, the fault text goes to `err`, and whether that succeeds changes nothing.
@@ -49,12 +55,14 @@ use std::alloc::Global;
 ///   there, or the folder failed.
 /// - `Refused`: for `check` the text is no valid certificate, for `solve` no network text.
 /// - For `assign`: `Feed`; then `Demand` of the zones, of the walks and of the demand; then
-///   `Scenario`; and `Range`, where a table, the lines or the network passes a limit, the lines after
-///   the scenario and the network after them.
+///   `Scenario`; then `Demand` of the zone that is asked for; and `Range`, where a table, the lines
+///   or the network passes a limit, the lines after that zone and the network after them. For `gen`
+///   the same of its files.
 /// - `Unreachable`: the demand of a pair of zones, or for `solve` of a node, does not reach.
 /// - `WriteFault`: `out` failed. Else it is `Done`.
 ///
-/// `NoMemory` may come in place of any.
+/// `NoMemory` may come in place of any. The tables of `assign` are written page by page, so it may
+/// come behind their first bytes.
 pub fn run<D: Folder, O: Sink, E: Sink>(
     alloc: Global,
     words: &[Name],
@@ -64,17 +72,25 @@ pub fn run<D: Folder, O: Sink, E: Sink>(
 ) -> Status
     ensures code { result.code ≡ code_of result.cause }
 
-    // The output of the command was printed whole: for `assign` the summary of the job of the files,
-    // for `check` the verdict of the file, for `solve` the certificate of the file's problem.
+    // The output of the command was printed whole: for `assign` what its words ask for of the job of
+    // the files, for `check` the verdict of the file, for `solve` the certificate of the file's
+    // problem, for `gen` the summary of the job of the generated files.
     ensures done { result.cause ≡ Cause.Done
         → PrintedWhole (D.files folder.old) (command_of words.now) (O.written out.old) (O.written out.new) }
 
-    // The summary that `assign` printed has the totals of the job's one assignment. Every unit of demand
-    // between two zones is sent to its destination and arrives, conserved at each node; no plans are
-    // cheaper than the printed bound; the printed cost is that of the volumes and waits of all
-    // destinations, which add up to those printed; and it is within the printed slack of the bound.
+    // What `assign` printed has the totals of the job's one assignment, and so has what `gen` printed.
+    // Every unit of demand between two zones is sent to its destination and arrives, conserved at each
+    // node; no plans are cheaper than the bound; the cost is that of the volumes and waits of all
+    // destinations, which add up to those printed, and it is within the slack of the bound; and along
+    // each line the loads follow from boardings and alightings.
     ensures assigned { (values : TheWords) → command_of words.now ≡ Some (Assign values) → result.cause ≡ Cause.Done
         → PrintsAssignment (D.files folder.old) values (O.written out.old) (O.written out.new) }
+    ensures generated { (values : GenWords) → command_of words.now ≡ Some (Gen values) → result.cause ≡ Cause.Done
+        → PrintsTotals (generated_job values) (O.written out.old) (O.written out.new) }
+
+    // The certificate that `assign` printed is valid, with the cost and the bound of its zone.
+    ensures certified { (values : TheWords) → command_of words.now ≡ Some (Assign values) → values.print ≡ print.Certificate → result.cause ≡ Cause.Done
+        → PrintsZoneCertificate (D.files folder.old) values (O.written out.old) (O.written out.new) }
 
     // The certificate that `solve` printed is valid, and its cost is within its slack of its bound.
     ensures solved { (path : List ℕ) → command_of words.now ≡ Some (Solve path) → result.cause ≡ Cause.Done
@@ -112,10 +128,15 @@ pub fn run<D: Folder, O: Sink, E: Sink>(
     ensures complete { DidNotRise (D.count folder.old) (D.count folder.new) → DidNotRise (O.count out.old) (O.count out.new)
         → IfSome (D.files folder.old) (λ files. Completes files (command_of words.now) result.cause (O.written out.old) (O.written out.new)) }
 
-    // What is appended: the first bytes of the output where `out` failed, and after the other causes nothing.
+    // What is appended: first bytes of the output where `out` failed, also where a table wants memory,
+    // and after the other causes nothing. Whichever cause, it is never more than that.
     ensures sent { (sent : ℕ) → result.cause ≡ Cause.WriteFault sent
         → PrintedInPart (D.files folder.old) (command_of words.now) (O.written out.old) (O.written out.new) sent }
-    ensures nothing { WritesNothing result.cause → O.written out.new ≡ O.written out.old }
+    ensures no_memory { result.cause ≡ Cause.NoMemory → (O.written out.new ≡ O.written out.old)
+        ⊎ PrintedFront (D.files folder.old) (command_of words.now) (O.written out.old) (O.written out.new) }
+    ensures nothing { WritesNothing (command_of words.now) result.cause → O.written out.new ≡ O.written out.old }
+    ensures front { IfSome (D.files folder.old) (λ files. (output : List ℕ) → IsOutcome files (command_of words.now) Cause.Done output
+        → AppendsFront output (O.written out.old) (O.written out.new)) }
     ensures fault_text { Prints (E.count err.old) (E.count err.new) (E.written err.old) (E.written err.new) (fault_text result.cause) }
 {
     let cause = carry_out(alloc, words, folder, out);
@@ -138,6 +159,10 @@ fn carry_out<D: Folder, O: Sink>(
         (command_of words.now) result }
     ensures assigned { (values : TheWords) → command_of words.now ≡ Some (Assign values) → result ≡ Cause.Done
         → PrintsAssignment (D.files folder.old) values (O.written out.old) (O.written out.new) }
+    ensures generated { (values : GenWords) → command_of words.now ≡ Some (Gen values) → result ≡ Cause.Done
+        → PrintsTotals (generated_job values) (O.written out.old) (O.written out.new) }
+    ensures certified { (values : TheWords) → command_of words.now ≡ Some (Assign values) → values.print ≡ print.Certificate → result ≡ Cause.Done
+        → PrintsZoneCertificate (D.files folder.old) values (O.written out.old) (O.written out.new) }
     ensures solved { (path : List ℕ) → command_of words.now ≡ Some (Solve path) → result ≡ Cause.Done
         → PrintsCertificate (D.files folder.old) (command_of words.now) IsValid (O.written out.old) (O.written out.new) }
 {
@@ -155,12 +180,17 @@ fn carry_out_command<D: Folder, O: Sink>(
     folder: &mut D,
     out: &mut O,
 ) -> Cause
+    requires agree { ValuesAgree command.now }
     ensures ends { EndsCommand
         (record { files = D.files folder.old; old_count = D.count folder.old; new_count = D.count folder.new })
         (record { old_count = O.count out.old; new_count = O.count out.new; old = O.written out.old; new = O.written out.new })
         (Some command.now) result }
     ensures assigned { (values : TheWords) → command.now ≡ Assign values → result ≡ Cause.Done
         → PrintsAssignment (D.files folder.old) values (O.written out.old) (O.written out.new) }
+    ensures generated { (values : GenWords) → command.now ≡ Gen values → result ≡ Cause.Done
+        → PrintsTotals (generated_job values) (O.written out.old) (O.written out.new) }
+    ensures certified { (values : TheWords) → command.now ≡ Assign values → values.print ≡ print.Certificate → result ≡ Cause.Done
+        → PrintsZoneCertificate (D.files folder.old) values (O.written out.old) (O.written out.new) }
     ensures solved { (path : List ℕ) → command.now ≡ Solve path → result ≡ Cause.Done
         → PrintsCertificate (D.files folder.old) (Some command.now) IsValid (O.written out.old) (O.written out.new) }
 {
@@ -168,5 +198,6 @@ fn carry_out_command<D: Folder, O: Sink>(
         Command::Assign(words) => assign(alloc, words, folder, out),
         Command::Check(path) => check(alloc, path.as_str(), folder, out),
         Command::Solve(path) => solve(alloc, path.as_str(), folder, out),
+        Command::Gen(words) => assign_generated(alloc, words, out),
     }
 }

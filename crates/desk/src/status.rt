@@ -26,12 +26,12 @@ pub enum Cause {
     Usage(UsageFault),
     /// The feed is refused.
     Feed(FeedFault),
-    /// The zones, the walks or the demand are refused.
+    /// The zones, the walks, the demand or the zone that is asked for are refused.
     Demand(DemandFault),
     /// The scenario is refused.
     Scenario(ScenarioFault),
-    /// Some demand does not reach its destination: for `assign` the first pair by destination and
-    /// then by origin, for `solve` the least node.
+    /// Some demand does not reach its destination: for `assign` and `gen` the first pair by
+    /// destination and then by origin, for `solve` the least node.
     Unreachable(Unreached),
     /// A limit was passed, other than inside a text that is checked or solved: the limit, and the count that passed it.
     Range(Limit, u128),
@@ -77,6 +77,7 @@ pub enum Limit {
     Cost,
     Nodes,
     Arcs,
+    Document,
 }
 
 impl Status {

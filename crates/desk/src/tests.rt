@@ -3,6 +3,7 @@
 mod assignments;
 mod check;
 mod city;
+mod generated;
 mod running;
 mod solve;
 mod texts;

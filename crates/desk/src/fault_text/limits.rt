@@ -20,6 +20,7 @@ pub fn limit_name(limit: Limit) -> &'static str
         Limit::Cost => "cost",
         Limit::Nodes => "nodes",
         Limit::Arcs => "arcs",
+        Limit::Document => "document",
     }
 }
 

@@ -1,6 +1,7 @@
 //! Runs of `assign`.
 
 mod faults;
+mod prints;
 mod stations;
 mod usual;
 

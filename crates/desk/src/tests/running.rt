@@ -97,6 +97,18 @@ pub fn expect_over(
     Ok(())
 }
 
+/// What a run in which nothing fails writes to its output.
+pub fn output_of(rt: &(impl Abort + AllocGlobal), trial: Trial<'_>) -> Result<String, AllocError> {
+    let alloc = rt.alloc();
+    let mut folder = folder_of(rt, trial)?;
+    let words = names_of(alloc, trial.words)?;
+    let mut out = MemorySink::new(alloc, trial.room, 7, Vec::new(alloc))?;
+    let mut err = MemorySink::new(alloc, trial.room_for_faults, 1000, Vec::new(alloc))?;
+    let code = code_of(alloc, words.as_slice(), &mut folder, &mut out, &mut err);
+    assert_eq!(rt; code, 0);
+    String::from_str(alloc, from_utf8(out.bytes()).unwrap_or("no text"))
+}
+
 // Asserts that this text was written.
 fn expect_text(rt: &(impl Abort + AllocGlobal), sink: &MemorySink, text: &str) {
     let written = from_utf8(sink.bytes()).unwrap_or("no text");

@@ -7,6 +7,7 @@ use Rattle.desk.proofs.assigning.assign.Goals as goal
 
 pub assign_in-requires : goal.assign_in-requires
 assign_in-requires g c = record {
+  agree = c.requires.agree;
   period =
       period_at c.as_str.result.now c.as_str-2.result.now c.as_str-3.result.now c.args.words.now.date c.args.words.now.from c.args.words.now.to c.in-Ok.period
       c.as_str.ensures.value c.as_str-2.ensures.value c.as_str-3.ensures.value c.in-Ok.ensures.period;

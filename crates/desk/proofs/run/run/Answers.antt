@@ -1,12 +1,13 @@
 use Rattle.std.proofs.Common.{◌≡◌, sym, ap, subst, ◌∙◌}
 use Rattle.desk.specs.declared.status.Status.{Status}
 use Rattle.desk.specs.declared.status.UsageFault.TheVariants.{Words, Date, Window, NoFile}
-use Rattle.desk.specs.declared.status.Cause.TheVariants.{Done, Usage, Feed, Demand, Scenario, Range, ReadFault, WriteFault, Refused, Unreachable}
+use Rattle.desk.specs.declared.status.Cause.TheVariants.{Done, Usage, Feed, Demand, Scenario, Range, ReadFault, WriteFault, NoMemory, Refused, Unreachable}
 use Rattle.desk.specs.Command.{command_of}
 use Rattle.desk.specs.Ends.{EndsCommand}
-use Rattle.desk.specs.Status.{WritesNothing}
+use Rattle.desk.specs.Outcome.{WritesNothing}
 use Rattle.desk.proofs.Completeness.{complete}
 use Rattle.desk.proofs.EndLemmas.{outcome_of}
+use Rattle.desk.proofs.FrontLemmas.{front_of}
 use Rattle.desk.proofs.RunLemmas.{ends_at, nothing_written}
 use Rattle.desk.proofs.SolvingLemmas.{printed_within_slack}
 use Rattle.desk.proofs.run.run.Goals as goal
@@ -123,13 +124,21 @@ returns-clause-sent g c sent e =
     (record { old_count = g.O.Counted.count c.args.out.now; new_count = g.O.Counted.count c.carry_out-cause.new.out; old = g.O.Sink.written c.args.out.now; new = g.O.Sink.written c.carry_out-cause.new.out })
     (command_of c.args.words.now) c.carry_out-cause.result c.of.result.cause (WriteFault sent) c.carry_out-cause.ensures.ends same e).1
 
+pub returns-clause-no_memory : goal.returns-clause-no_memory
+returns-clause-no_memory g c e =
+    let same : c.of.result.cause ≡ c.carry_out-cause.result = ap (λ (s : Status). s.cause) c.of.ensures.status in
+    (ends_at
+    (record { files = g.D.Folder.files c.args.folder.now; old_count = g.D.Counted.count c.args.folder.now; new_count = g.D.Counted.count c.carry_out-cause.new.folder })
+    (record { old_count = g.O.Counted.count c.args.out.now; new_count = g.O.Counted.count c.carry_out-cause.new.out; old = g.O.Sink.written c.args.out.now; new = g.O.Sink.written c.carry_out-cause.new.out })
+    (command_of c.args.words.now) c.carry_out-cause.result c.of.result.cause NoMemory c.carry_out-cause.ensures.ends same e).front
+
 pub returns-clause-nothing : goal.returns-clause-nothing
 returns-clause-nothing g c none =
     let same : c.of.result.cause ≡ c.carry_out-cause.result = ap (λ (s : Status). s.cause) c.of.ensures.status in
     nothing_written
     (record { files = g.D.Folder.files c.args.folder.now; old_count = g.D.Counted.count c.args.folder.now; new_count = g.D.Counted.count c.carry_out-cause.new.folder })
     (record { old_count = g.O.Counted.count c.args.out.now; new_count = g.O.Counted.count c.carry_out-cause.new.out; old = g.O.Sink.written c.args.out.now; new = g.O.Sink.written c.carry_out-cause.new.out })
-    (command_of c.args.words.now) c.carry_out-cause.result c.carry_out-cause.ensures.ends (subst WritesNothing same none)
+    (command_of c.args.words.now) c.carry_out-cause.result c.carry_out-cause.ensures.ends (subst (WritesNothing (command_of c.args.words.now)) same none)
 
 pub returns-clause-outcome : goal.returns-clause-outcome
 returns-clause-outcome g c =
@@ -142,10 +151,27 @@ returns-clause-outcome g c =
     (record { old_count = g.O.Counted.count c.args.out.now; new_count = g.O.Counted.count c.carry_out-cause.new.out; old = g.O.Sink.written c.args.out.now; new = g.O.Sink.written c.carry_out-cause.new.out })
     (command_of c.args.words.now)) (sym same) c.carry_out-cause.ensures.ends)
 
+pub returns-clause-front : goal.returns-clause-front
+returns-clause-front g c =
+    let same : c.of.result.cause ≡ c.carry_out-cause.result = ap (λ (s : Status). s.cause) c.of.ensures.status in
+    front_of (g.D.Folder.files c.args.folder.now) (g.D.Counted.count c.args.folder.now) (g.D.Counted.count c.carry_out-cause.new.folder)
+    (record { old_count = g.O.Counted.count c.args.out.now; new_count = g.O.Counted.count c.carry_out-cause.new.out; old = g.O.Sink.written c.args.out.now; new = g.O.Sink.written c.carry_out-cause.new.out })
+    (command_of c.args.words.now) c.carry_out-cause.result c.carry_out-cause.ensures.ends
+
 pub returns-clause-assigned : goal.returns-clause-assigned
 returns-clause-assigned g c values is done =
     let same : c.of.result.cause ≡ c.carry_out-cause.result = ap (λ (s : Status). s.cause) c.of.ensures.status in
     c.carry_out-cause.ensures.assigned values is (sym same ∙ done)
+
+pub returns-clause-generated : goal.returns-clause-generated
+returns-clause-generated g c values is done =
+    let same : c.of.result.cause ≡ c.carry_out-cause.result = ap (λ (s : Status). s.cause) c.of.ensures.status in
+    c.carry_out-cause.ensures.generated values is (sym same ∙ done)
+
+pub returns-clause-certified : goal.returns-clause-certified
+returns-clause-certified g c values is certificate done =
+    let same : c.of.result.cause ≡ c.carry_out-cause.result = ap (λ (s : Status). s.cause) c.of.ensures.status in
+    c.carry_out-cause.ensures.certified values is certificate (sym same ∙ done)
 
 pub returns-clause-solved : goal.returns-clause-solved
 returns-clause-solved g c path is done =

@@ -21,14 +21,10 @@ fn refuses_other_words(rt: HostRuntime) -> Result<(), Fail> {
         (" --demand d", ""),
         ("--zones z", "--zones z --zones z"),
         ("--zones z", "--zones -z"),
-        ("--zones z", "--zones z --print lines"),
-        ("--zones z", "--zones z --print certificate"),
-        ("--zones z", "--zones z --to-zone Y"),
         ("--zones z", "--zones z --help"),
         ("--zones z", "--zones z -h"),
         ("--zones z", "--zones z --version"),
         ("--zones z", "--zones z --walks w --walks w"),
-        ("--zones z", "--zones z --print summary"),
         ("--demand d", "--demand d --scenario"),
         ("assign f", "help assign f"),
     ];
@@ -52,7 +48,6 @@ fn refuses_other_commands(rt: HostRuntime) -> Result<(), Fail> {
         "--help",
         "import demand d1 d",
         "serve --port 80 --connections 1",
-        "gen 7 200 30 40",
     ];
     for words in cases {
         expect_city(
